@@ -15,7 +15,7 @@ use Rattle.result_bytes.specs.declared.value.Value.{Value}
 use Rattle.result_bytes.specs.declared.value.Value.TheVariants.{Tree, Header, Method, Answer}
 use Rattle.result_bytes.specs.Values.{IsValue, canon, kind_of_value}
 use Rattle.fingerprint.specs.Prints.{print_of}
-use Rattle.answer_fixtures.specs.declared.keys.Asked.{Asked}
+use Rattle.answer_fixtures.specs.declared.keys.KeyParts.{KeyParts}
 
 -- ---- keys
 
@@ -25,23 +25,23 @@ name_told [] = None
 name_told (b ∷ text) = Some (b ∷ text)
 
 -- the key of the kind, with the names that are given
-pub record IsKeyOf (asked : Asked) (key : Key) : Type 0 where
+pub record IsKeyOf (asked : KeyParts) (key : Key) : Type 0 where
   pub kind : kind_of_key key ≡ asked.0
   pub class : class_of key ≡ name_told asked.1.now
   pub member : member_of key ≡ name_told asked.2.now
 
 -- whether a key of the kind has the names that are given
-abbrev pub FitTold : Asked → Type 0
+abbrev pub FitTold : KeyParts → Type 0
 FitTold asked = FitNames asked.0 (name_told asked.1.now) (name_told asked.2.now)
 
 -- the same kind and names are given
-pub record AreAlike (one other : Asked) : Type 0 where
+pub record AreAlike (one other : KeyParts) : Type 0 where
   pub kind : one.0 ≡ other.0
   pub class : name_told one.1.now ≡ name_told other.1.now
   pub member : name_told one.2.now ≡ name_told other.2.now
 
 -- the answer to whether the key that is given first is less than the other one
-pub record IsOrderOf (lesser greater : Asked) (answer : Bool) : Type 0 where
+pub record IsOrderOf (lesser greater : KeyParts) (answer : Bool) : Type 0 where
   pub first : Key
   pub second : Key
   pub of_first : IsKeyOf lesser first
@@ -65,13 +65,13 @@ abbrev pub IsSpelling : Kind → List ℕ → Type 0
 IsSpelling kind bytes = (v : Value) × Spell kind bytes v
 
 -- the digits spell this value, of this kind
-pub record IsTold (kind : Kind) (digits : List ℕ) (v : Value) : Type 0 where
+pub record IsSpelledValue (kind : Kind) (digits : List ℕ) (v : Value) : Type 0 where
   pub is_value : IsValue v
   pub of_kind : kind_of_value v ≡ kind
   pub spelled : Tell digits (canon v)
 
 abbrev pub IsToldSpelling : Kind → List ℕ → Type 0
-IsToldSpelling kind digits = (v : Value) × IsTold kind digits v
+IsToldSpelling kind digits = (v : Value) × IsSpelledValue kind digits v
 
 -- both spell the same value of the kind
 abbrev pub AreSpellings : Kind → List ℕ → List ℕ → Type 0
@@ -86,13 +86,13 @@ abbrev pub IsIdle : Kind → List ℕ → ℕ → ℕ → Type 0
 IsIdle kind bytes at flip = AreSpellings kind (flipped bytes at flip) bytes
 
 -- another value, or none, where the byte's lowest bit is turned, its highest, or all of them
-pub record Counts (kind : Kind) (bytes : List ℕ) (at : ℕ) : Type 0 where
+pub record CountsTurns (kind : Kind) (bytes : List ℕ) (at : ℕ) : Type 0 where
   pub lowest : ¬ IsIdle kind bytes at 0x01
   pub highest : ¬ IsIdle kind bytes at 0x80
   pub all : ¬ IsIdle kind bytes at 0xff
 
 abbrev pub AllCount : Kind → List ℕ → Type 0
-AllCount kind bytes = (at : ℕ) → at < length bytes → Counts kind bytes at
+AllCount kind bytes = (at : ℕ) → at < length bytes → CountsTurns kind bytes at
 
 -- the answer to whether each byte that is given counts
 pub record IsTightness (kind : Kind) (digits : List ℕ) (answer : Bool) : Type 0 where
@@ -115,20 +115,20 @@ bare v = v
 -- given by the same digits
 pub record IsCopied (kind : Kind) (digits : List ℕ) (answer : Bool) : Type 0 where
   pub value : Value
-  pub of_digits : IsTold kind digits value
+  pub of_digits : IsSpelledValue kind digits value
   pub told : IsTrue answer ↔ Tell digits (canon (bare value))
 
 -- the answer to whether the answer that is given is printed as this text
 pub record IsPrintOf (digits text : List ℕ) (answer : Bool) : Type 0 where
   pub value : Value
-  pub of_digits : IsTold kinds.Answer digits value
+  pub of_digits : IsSpelledValue kinds.Answer digits value
   pub told : IsTrue answer ↔ IsPrintedAs value text
 
 -- the answer to whether the digits spell the body that a class and a method name in the tree that
 -- is given
-pub record IsBodyOf (tree class method digits : List ℕ) (answer : Bool) : Type 0 where
+pub record NamesBody (tree class method digits : List ℕ) (answer : Bool) : Type 0 where
   pub file : File
-  pub of_digits : IsTold kinds.Tree tree (Tree (Some file))
+  pub of_digits : IsSpelledValue kinds.Tree tree (Tree (Some file))
   pub told : IsTrue answer ↔ Tell digits (canon (Method (body_named file class method)))
 
 -- ---- sealed results
@@ -144,7 +144,7 @@ IsOpenable kind bytes print = (v : Value) × IsSealing kind bytes print v
 -- the answer to whether the fingerprint of the value that is given has these digits
 pub record IsSealedAs (kind : Kind) (digits print : List ℕ) (answer : Bool) : Type 0 where
   pub value : Value
-  pub of_digits : IsTold kind digits value
+  pub of_digits : IsSpelledValue kind digits value
   pub told : IsTrue answer ↔ (encode_lower (print_of value) ≡ print)
 
 -- ---- projects

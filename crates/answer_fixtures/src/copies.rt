@@ -6,27 +6,17 @@ ghost use Rattle.mj_answer.specs.Text.{text_of};
 ghost use Rattle.result_bytes.specs.declared.value.Value.TheVariants.{Header as of_header, Method as of_method, Sig as of_signature, Tree as of_tree};
 ghost use Rattle.result_bytes.specs.Values.{IsValue, canon};
 ghost use Rattle.tree_bytes.specs.NamedBodies.{body_named};
-ghost use Rattle.answer_fixtures.specs.Telling.{Tell, bare, IsCopied, IsPrintedAs, IsPrintOf, IsBodyOf};
+ghost use Rattle.answer_fixtures.specs.Telling.{Tell, bare, IsCopied, IsPrintedAs, IsPrintOf, NamesBody};
 
 use crate::unfit::Unfit;
 use crate::values::{bytes_of, is_encoded, share, shared_of};
 use item_ids::Kind;
 use mj_answer::{Answer, ClassAnswer, copy_faults, render};
 use mj_lexer::Name;
-use mj_tree::{Field, copy_types};
+use mj_tree::{Field, copy_fields, copy_types};
 use result_bytes::{Header, Signature, Value};
 use std::alloc::{AllocError, Global};
 use tree_bytes::{Body, Tree};
-
-fn copy_fields(alloc: Global, fields: &[Field]) -> Result<Vec<Field>, AllocError>
-    ensures { IfOk result (λ copies. copies.items ≡ fields.now) }
-{
-    let mut copies = Vec::new(alloc);
-    for field in fields {
-        copies.push(field.copy(alloc)?)?;
-    }
-    Ok(copies)
-}
 
 /// A header of copies of the fields.
 fn copy_header(alloc: Global, header: &Header) -> Result<Value, AllocError>
@@ -197,7 +187,7 @@ pub fn has_body(
     method: &str,
     body: &str,
 ) -> Result<bool, Unfit>
-    ensures { IfOk result (IsBodyOf tree.now class.now method.now body.now) }
+    ensures { IfOk result (NamesBody tree.now class.now method.now body.now) }
 {
     let value = shared_of(alloc, Kind::Tree, tree)?;
     is_body(alloc, tree_in(&value)?, class, method, body)

@@ -13,7 +13,7 @@ use std::alloc::Global;
 
 /// The kind of a key, its class or file, and its method, each empty where there is none.
 #[derive(Clone, Copy, Debug)]
-pub struct Asked<'a>(pub Kind, pub &'a str, pub &'a str);
+pub struct KeyParts<'a>(pub Kind, pub &'a str, pub &'a str);
 
 /// The name of this text, or none where it is empty.
 fn perhaps_name(alloc: Global, text: &str) -> Result<Option<Name>, Unfit>
@@ -29,7 +29,7 @@ fn perhaps_name(alloc: Global, text: &str) -> Result<Option<Name>, Unfit>
 }
 
 /// The key, or `None` where the names don't fit its kind.
-fn perhaps_key(alloc: Global, asked: Asked) -> Result<Option<Key>, Unfit>
+fn perhaps_key(alloc: Global, asked: KeyParts) -> Result<Option<Key>, Unfit>
     ensures made { IfOk result (λ key. IsSome key ↔ FitTold asked.entry) }
     ensures told { IfOk result (λ key. IfSome key (IsKeyOf asked.entry)) }
 {
@@ -41,7 +41,7 @@ fn perhaps_key(alloc: Global, asked: Asked) -> Result<Option<Key>, Unfit>
 }
 
 /// The key of this kind with these names.
-pub fn key_of(alloc: Global, asked: Asked) -> Result<Key, Unfit>
+pub fn key_of(alloc: Global, asked: KeyParts) -> Result<Key, Unfit>
     ensures kind { IfOk result (λ key. kind_of key ≡ asked.entry.0) }
     ensures told { IfOk result (IsKeyOf asked.entry) }
 {
@@ -52,7 +52,7 @@ pub fn key_of(alloc: Global, asked: Asked) -> Result<Key, Unfit>
 }
 
 /// Whether the names fit the kind.
-pub fn is_made(alloc: Global, asked: Asked) -> Result<bool, Unfit>
+pub fn is_made(alloc: Global, asked: KeyParts) -> Result<bool, Unfit>
     ensures { IfOk result (λ b. IsTrue b ↔ FitTold asked.entry) }
 {
     let key = perhaps_key(alloc, asked)?;
@@ -70,14 +70,14 @@ fn is_name(name: Option<&Name>, text: &str) -> bool
 }
 
 /// Whether it is the key of this kind with these names.
-pub fn is_key(key: &Key, asked: Asked) -> bool
+pub fn is_key(key: &Key, asked: KeyParts) -> bool
     ensures { IsTrue result ↔ IsKeyOf asked.entry key.now }
 {
     key.kind() == asked.0 && is_name(key.class(), asked.1) && is_name(key.member(), asked.2)
 }
 
 /// Whether the key made of the first has the kind and the names of the second.
-pub fn is_named(alloc: Global, asked: Asked, other: Asked) -> Result<bool, Unfit>
+pub fn is_named(alloc: Global, asked: KeyParts, other: KeyParts) -> Result<bool, Unfit>
     ensures { IfOk result (λ b. IsTrue b ↔ AreAlike asked.entry other.entry) }
 {
     let key = key_of(alloc, asked)?;
@@ -85,7 +85,7 @@ pub fn is_named(alloc: Global, asked: Asked, other: Asked) -> Result<bool, Unfit
 }
 
 /// Whether the first key is less than the second, and differs from it.
-pub fn is_less(alloc: Global, lesser: Asked, greater: Asked) -> Result<bool, Unfit>
+pub fn is_less(alloc: Global, lesser: KeyParts, greater: KeyParts) -> Result<bool, Unfit>
     ensures { IfOk result (IsOrderOf lesser.entry greater.entry) }
 {
     let key = key_of(alloc, lesser)?;
@@ -93,7 +93,7 @@ pub fn is_less(alloc: Global, lesser: Asked, greater: Asked) -> Result<bool, Unf
 }
 
 /// Whether the key is less than the one of this kind with these names, and differs from it.
-fn is_less_than(alloc: Global, key: &Key, greater: Asked) -> Result<bool, Unfit>
+fn is_less_than(alloc: Global, key: &Key, greater: KeyParts) -> Result<bool, Unfit>
     ensures { IfOk result (λ b. (other : KeyValue) × IsKeyOf greater.entry other
         × (IsTrue b ↔ (key_cmp key.now other ≡ Less))) }
 {
@@ -109,7 +109,7 @@ fn is_below(key: &Key, other: &Key) -> bool
 }
 
 /// Whether a copy of the first key equals the second.
-pub fn is_copy(alloc: Global, asked: Asked, other: Asked) -> Result<bool, Unfit>
+pub fn is_copy(alloc: Global, asked: KeyParts, other: KeyParts) -> Result<bool, Unfit>
     ensures { IfOk result (λ b. IsTrue b ↔ AreAlike asked.entry other.entry) }
 {
     let key = key_of(alloc, asked)?;
@@ -117,7 +117,7 @@ pub fn is_copy(alloc: Global, asked: Asked, other: Asked) -> Result<bool, Unfit>
 }
 
 /// Whether a copy of the key equals the one of this kind with these names.
-fn equals_named(alloc: Global, key: &Key, asked: Asked) -> Result<bool, Unfit>
+fn equals_named(alloc: Global, key: &Key, asked: KeyParts) -> Result<bool, Unfit>
     ensures { IfOk result (λ b. IsTrue b ↔ IsKeyOf asked.entry key.now) }
 {
     // Keys are equal where their kinds, classes and members are.

@@ -9,7 +9,7 @@ mod unfit;
 mod values;
 
 pub use copies::{has_body, is_copied, is_printed_again};
-pub use keys::{Asked, is_copy, is_key, is_less, is_made, is_named, key_of};
+pub use keys::{KeyParts, is_copy, is_key, is_less, is_made, is_named, key_of};
 pub use projects::project_of;
 pub use sealing::{
     is_opened, is_print, is_sealed, is_sealed_beside, is_spelled, open_fault, sealed_of,

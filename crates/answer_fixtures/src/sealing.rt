@@ -5,11 +5,11 @@ ghost use Rattle.hex.specs.Hex.{encode_lower};
 ghost use Rattle.result_bytes.specs.Values.{IsValue, canon, kind_of_value};
 ghost use Rattle.fingerprint.specs.Opening.{IsOpened};
 ghost use Rattle.fingerprint.specs.Prints.{print_of};
-ghost use Rattle.answer_fixtures.specs.Telling.{Tell, IsTold, IsOpenable, IsSealedAs};
+ghost use Rattle.answer_fixtures.specs.Telling.{Tell, IsSpelledValue, IsOpenable, IsSealedAs};
 
 use crate::unfit::Unfit;
 use crate::values::{bytes_of, value_of};
-use fingerprint::{OpenFault, Print, Sealed, open_sealed, seal_or_share};
+use fingerprint::{Print, Sealed, SealedFault, open_sealed, seal_or_share};
 use item_ids::Kind;
 use result_bytes::{Refusal, Value};
 use std::alloc::{AllocError, AllocFailed, Global};
@@ -18,7 +18,7 @@ use std::sync::Arc;
 /// The result of the kind that these digits spell.
 pub fn sealed_of(alloc: Global, kind: Kind, digits: &str) -> Result<Arc<Sealed>, Unfit>
     ensures kind { IfOk result (λ answer. kind_of_value (arc_value answer) ≡ kind) }
-    ensures told { IfOk result (λ answer. IsTold kind digits.now (arc_value answer)) }
+    ensures told { IfOk result (λ answer. IsSpelledValue kind digits.now (arc_value answer)) }
 {
     sealed_beside(alloc, None, kind, digits)
 }
@@ -31,7 +31,7 @@ fn sealed_beside(
     digits: &str,
 ) -> Result<Arc<Sealed>, Unfit>
     ensures kind { IfOk result (λ answer. kind_of_value (arc_value answer) ≡ kind) }
-    ensures told { IfOk result (λ answer. IsTold kind digits.now (arc_value answer)) }
+    ensures told { IfOk result (λ answer. IsSpelledValue kind digits.now (arc_value answer)) }
 {
     let value = value_of(alloc, kind, digits)?;
     Ok(seal_or_share(alloc, value, known)?)
@@ -96,7 +96,7 @@ pub fn is_opened(alloc: Global, kind: Kind, bytes: &[u8], print: Print) -> Resul
     let copy = bytes.to_vec(alloc)?;
     match open_sealed(alloc, kind, copy, print) {
         Ok(sealed) => Ok(is_result(alloc, sealed, kind, bytes, print)?),
-        Err(OpenFault::Refused(Refusal::OutOfMemory)) => Err(Unfit),
+        Err(SealedFault::Refused(Refusal::OutOfMemory)) => Err(Unfit),
         Err(_) => Ok(false),
     }
 }
@@ -107,7 +107,7 @@ pub fn open_fault(
     kind: Kind,
     bytes: &[u8],
     print: Print,
-) -> Result<Option<OpenFault>, AllocError>
+) -> Result<Option<SealedFault>, AllocError>
     ensures { IfOk result (λ fault. MatchOption fault
         (IsOpenable kind bytes.now print.0)
         (λ why. IsOpened kind bytes.now print.0 (Err why))) }

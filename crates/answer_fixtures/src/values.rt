@@ -2,8 +2,8 @@
 ghost use Rattle.std.specs.Prelude.{◌≡◌, ◌↔◌, ◌<◌, ℕ, length, IsTrue, IfOk, IfErr, MatchOption, Err};
 ghost use Rattle.std.specs.Arc.{arc_value};
 ghost use Rattle.result_bytes.specs.declared.value.Value.{Value};
-ghost use Rattle.result_bytes.specs.Values.{canon, kind_of_value, decoding, IsUnlessMemory};
-ghost use Rattle.answer_fixtures.specs.Telling.{Tell, Spell, IsSpelling, IsTold, IsPrintedAs, IsPrintOf, IsToldSpelling, IsTightness, AreSpellings, Counts, AllCount, flipped};
+ghost use Rattle.result_bytes.specs.Values.{canon, kind_of_value, decoding, IsDecodedUnlessMemory};
+ghost use Rattle.answer_fixtures.specs.Telling.{Tell, Spell, IsSpelling, IsSpelledValue, IsPrintedAs, IsPrintOf, IsToldSpelling, IsTightness, AreSpellings, CountsTurns, AllCount, flipped};
 
 use crate::unfit::Unfit;
 use item_ids::Kind;
@@ -45,7 +45,7 @@ fn read(alloc: Global, kind: Kind, bytes: &[u8]) -> Result<Arc<Value>, Refusal>
     ensures only { (v : Value) → Spell kind bytes.now v
         → IfErr result (λ refusal. refusal ≡ Refusal.OutOfMemory) }
     ensures refused { IfErr result (λ refusal.
-        IsUnlessMemory (Err refusal) (decoding kind bytes.now)) }
+        IsDecodedUnlessMemory (Err refusal) (decoding kind bytes.now)) }
 {
     match decode(alloc, kind, bytes) {
         Ok(value) => share_read(alloc, value),
@@ -56,7 +56,7 @@ fn read(alloc: Global, kind: Kind, bytes: &[u8]) -> Result<Arc<Value>, Refusal>
 /// The value of the kind that these digits spell.
 pub fn value_of(alloc: Global, kind: Kind, digits: &str) -> Result<Value, Unfit>
     ensures kind { IfOk result (λ value. kind_of_value value ≡ kind) }
-    ensures told { IfOk result (IsTold kind digits.now) }
+    ensures told { IfOk result (IsSpelledValue kind digits.now) }
 {
     let bytes = bytes_of(alloc, digits)?;
     match decode(alloc, kind, bytes.as_slice()) {
@@ -67,7 +67,7 @@ pub fn value_of(alloc: Global, kind: Kind, digits: &str) -> Result<Value, Unfit>
 
 /// The same, shared.
 pub(crate) fn shared_of(alloc: Global, kind: Kind, digits: &str) -> Result<Arc<Value>, Unfit>
-    ensures { IfOk result (λ shared. IsTold kind digits.now (arc_value shared)) }
+    ensures { IfOk result (λ shared. IsSpelledValue kind digits.now (arc_value shared)) }
 {
     let value = value_of(alloc, kind, digits)?;
     Ok(share(alloc, value)?)
@@ -110,7 +110,7 @@ pub fn is_spelling(alloc: Global, kind: Kind, digits: &str) -> Result<bool, Unfi
 /// Why the bytes spell no value of the kind, or `None` where they spell one.
 pub fn refusal_of(alloc: Global, kind: Kind, bytes: &[u8]) -> Option<Refusal>
     ensures { MatchOption result (IsSpelling kind bytes.now)
-        (λ refusal. IsUnlessMemory (Err refusal) (decoding kind bytes.now)) }
+        (λ refusal. IsDecodedUnlessMemory (Err refusal) (decoding kind bytes.now)) }
 {
     match read(alloc, kind, bytes) {
         Ok(_) => None,
@@ -159,7 +159,7 @@ fn is_idle(alloc: Global, kind: Kind, bytes: &[u8], at: usize, flip: u8) -> Resu
 /// Whether another value, or none, is spelled where a byte's lowest bit is turned, its highest, or all of them.
 fn counts(alloc: Global, kind: Kind, bytes: &[u8], at: usize) -> Result<bool, Unfit>
     requires { at < length bytes.now }
-    ensures { IfOk result (λ b. IsTrue b ↔ Counts kind bytes.now at) }
+    ensures { IfOk result (λ b. IsTrue b ↔ CountsTurns kind bytes.now at) }
 {
     Ok(
         !is_idle(alloc, kind, bytes, at, 0x01)?

@@ -13,6 +13,7 @@ use Rattle.profiles.specs.declared.profile.Profile.{Profile}
 use Rattle.mj_rules.specs.Sentences.{classes_in}
 use Rattle.mj_rules.specs.Answering as answering
 use Rattle.mj_rules.specs.Answering.{first_classes, rules_of}
+use Rattle.result_bytes.specs.Parts.{files_in, index_in, tree_in}
 use Rattle.result_bytes.specs.declared.value.Value.TheVariants as values
 use Rattle.recorder.specs.Projects.{Project}
 use Rattle.recorder.specs.Programs.{Prog, Ret, Ask, runs, asks, Fits, each}
@@ -20,8 +21,6 @@ use Rattle.recorder.proofs.Rules.{each_fits, each_map}
 use Rattle.query_rules.specs.Items.{index_row, index_of, fault_set}
 use Rattle.query_rules.specs.Meaning.{mean}
 use Rattle.query_rules.specs.Reads.{all_trees, answer_parts, asked_keys, reads}
-use Rattle.text_queries.specs.Facts.{names_in, tree_in}
-use Rattle.member_queries.specs.Facts.{rows_in}
 use Rattle.member_queries.proofs.Passes.{Passes, Stays, Reads, passes_runs, passes_asks, passes_then, passes_each, flat_one}
 use Rattle.member_queries.proofs.FaultSets.{fold_append}
 use Rattle.answer_queries.specs.Trees.{NamedTree, tree_step}
@@ -85,14 +84,14 @@ module _ (profile : Profile) (p : Project) (is : IsProject p) where
   index_pass : Passes (mean profile p) (classes_steps (project_faults (read_files p)) (λ a. Ret (values.Answer a))) (keys.Index ∷ flat_map answer_parts (first_classes cs)) (Ret (values.Answer (rules_of profile p)))
   unfolding mean
   index_pass =
-      Reads keys.Index (λ v. each class_step (rows_in v) [] (λ classes. Ret (values.Answer (answer (project_faults (read_files p)) classes)))) (flat_map answer_parts (first_classes cs)) (Ret (values.Answer (rules_of profile p)))
+      Reads keys.Index (λ v. each class_step (index_in v) [] (λ classes. Ret (values.Answer (answer (project_faults (read_files p)) classes)))) (flat_map answer_parts (first_classes cs)) (Ret (values.Answer (rules_of profile p)))
       (subst (λ (a : AnswerValue). Passes (mean profile p) (each class_step (index_of p) [] (λ classes. Ret (values.Answer (answer (project_faults (read_files p)) classes)))) (flat_map answer_parts (first_classes cs)) (Ret (values.Answer a))) rules_same
       (classes_pass (λ classes. Ret (values.Answer (answer (project_faults (read_files p)) classes)))))
 
   passes : Passes (mean profile p) (answer_steps Ret) (asked_keys profile p keys.Answer) (Ret (mean profile p keys.Answer))
   unfolding mean asked_keys
   passes =
-      Reads keys.Files (λ v. each tree_step (names_in v) [] (λ files. classes_steps (project_faults files) (λ a. Ret (values.Answer a)))) (all_trees p ++ (keys.Index ∷ flat_map answer_parts (first_classes cs))) (Ret (values.Answer (rules_of profile p)))
+      Reads keys.Files (λ v. each tree_step (files_in v) [] (λ files. classes_steps (project_faults files) (λ a. Ret (values.Answer a)))) (all_trees p ++ (keys.Index ∷ flat_map answer_parts (first_classes cs))) (Ret (values.Answer (rules_of profile p)))
       (passes_then (mean profile p) (each tree_step (names_of p) [] (λ files. classes_steps (project_faults files) (λ a. Ret (values.Answer a)))) (all_trees p)
       (classes_steps (project_faults (read_files p)) (λ a. Ret (values.Answer a))) (keys.Index ∷ flat_map answer_parts (first_classes cs)) (Ret (values.Answer (rules_of profile p)))
       (trees_pass (λ files. classes_steps (project_faults files) (λ a. Ret (values.Answer a)))) index_pass)
@@ -101,14 +100,14 @@ module _ (profile : Profile) (p : Project) (is : IsProject p) where
 
 fits : Fits keys.Answer (answer_steps Ret)
 unfolding Fits
-fits = (omega arith, λ v. each_fits keys.Answer tree_step (λ n files q g. (omega arith, λ w. g (files ++ (n, tree_in w) ∷ []))) (names_in v) [] (λ files. classes_steps (project_faults files) (λ a. Ret (values.Answer a))) by_files)
+fits = (omega arith, λ v. each_fits keys.Answer tree_step (λ n files q g. (omega arith, λ w. g (files ++ (n, tree_in w) ∷ []))) (files_in v) [] (λ files. classes_steps (project_faults files) (λ a. Ret (values.Answer a))) by_files)
   where
     by_files : (files : List NamedTree) → Fits keys.Answer (classes_steps (project_faults files) (λ a. Ret (values.Answer a)))
     by_files files = (
       omega arith,
       λ v. each_fits keys.Answer class_step
           (λ row classes q g. (omega arith, λ members. (omega arith, λ diags. g (classes ++ class_answer row.class members diags ∷ []))))
-          (rows_in v) [] (λ classes. Ret (values.Answer (answer (project_faults files) classes))) (λ classes. refl),
+          (index_in v) [] (λ classes. Ret (values.Answer (answer (project_faults files) classes))) (λ classes. refl),
     )
 
 pub answer_ties : AnswerTies

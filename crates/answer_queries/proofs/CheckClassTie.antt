@@ -6,6 +6,7 @@ use Rattle.std.proofs.lemmas.List.{map-append}
 use Rattle.std.proofs.lemmas.Slice.Eq.{bytes_eq-Decides}
 use Rattle.item_ids.specs.declared.key.Key.{Key}
 use Rattle.item_ids.specs.declared.key.Key.TheVariants as keys
+use Rattle.item_ids.proofs.Lists.{all_from}
 use Rattle.mj_lexer.specs.Lexes.{limit}
 use Rattle.mj_tree.specs.Trees.{Name, Method}
 use Rattle.mj_tree.specs.declared.tree.Ty.{Ty}
@@ -33,6 +34,7 @@ use Rattle.mj_rules.specs.FaultLists.{fault, when_fault, each_numbered, supercla
 use Rattle.mj_rules.proofs.TableLaws.{found_name}
 use Rattle.mj_rules.proofs.RowLemmas.{finds_one}
 use Rattle.result_bytes.specs.Payloads.{HeaderValue, ChainValue}
+use Rattle.result_bytes.specs.Parts.{header_in, supers_in}
 use Rattle.result_bytes.specs.declared.value.Value.{Value}
 use Rattle.result_bytes.specs.declared.value.Value.TheVariants as values
 use Rattle.recorder.specs.Projects.{Project}
@@ -43,18 +45,17 @@ use Rattle.query_rules.specs.Meaning.{mean}
 use Rattle.query_rules.specs.BodyReads.{type_reads, accept_reads}
 use Rattle.query_rules.specs.Reads.{field_headers, return_chain, return_chains, overriding, class_check_reads, asked_keys, reads}
 use Rattle.body_query.specs.Bounds.{bound}
-use Rattle.body_questions.specs.Facts.{is_declared_in, descends_in, chain_classes, method_in}
+use Rattle.body_questions.specs.Classes.{is_declared_in, descends_in, chain_classes}
+use Rattle.body_questions.specs.Members.{method_in}
 use Rattle.body_questions.specs.Questions.{descends_step}
 use Rattle.body_query.proofs.Bounds.{same_number}
 use Rattle.body_query.proofs.Worlds.{world_same}
-use Rattle.member_queries.specs.Facts.{header_in, chain_in}
 use Rattle.member_queries.proofs.Passes.{Passes, Stays, Reads, passes_each, passes_then, flat_one, ties_by}
 use Rattle.member_queries.proofs.Declared.{found_behind}
 use Rattle.member_queries.proofs.FaultSets.{fold_append}
-use Rattle.member_queries.proofs.Tables.{all_from}
 use Rattle.answer_queries.specs.Signatures.{same_types, same_signature}
 use Rattle.answer_queries.specs.Told.{superclass_told, cycle_told, chain_told, field_told, method_told, faults_told}
-use Rattle.answer_queries.specs.CheckClass.{type_step, field_type_step, accept_step, may_step, override_flag, override_flag_step, overridden_class, override_step, declared_steps, check_class_by, check_class_steps}
+use Rattle.answer_queries.specs.CheckClass.{type_step, field_type_step, accept_step, may_step, override_flag, override_flag_step, overridden_class, override_step, check_declared_steps, check_class_by, check_class_steps}
 use Rattle.answer_queries.specs.Laws.{CheckClassTies}
 use Rattle.answer_queries.proofs.Counts.{class_few}
 use Rattle.answer_queries.proofs.Overriding.{clash, override_told, sig_chain, flag_reads, rest_along, own_nearest, clash_alike, chain_alike, flat_none, flat_same}
@@ -302,7 +303,7 @@ module _ (profile : Profile) (p : Project) where
         ∙ append_assoc (superclass_faults cs k.superclass) (chain_faults (chain_of cs k.name)) _
 
     rest_pass : (rest : List Name) (end : EndOf) → IsChain cs c (c ∷ rest) end
-        → Passes (mean profile p) (declared_steps profile c (header_of k) (Some (chain_value (c ∷ rest, end))) Ret) (field_headers k.fields ++ overriding k.methods (c ∷ rest) (return_chains profile cs k)) (Ret (values.CheckClass (fault_set (declaration_faults profile cs k))))
+        → Passes (mean profile p) (check_declared_steps profile c (header_of k) (Some (chain_value (c ∷ rest, end))) Ret) (field_headers k.fields ++ overriding k.methods (c ∷ rest) (return_chains profile cs k)) (Ret (values.CheckClass (fault_set (declaration_faults profile cs k))))
     rest_pass rest end is =
         let chain : Option ChainValue = Some (chain_value (c ∷ rest, end)) in
         let last : List Bool → List Bool → Prog = λ flags others. Ret (values.CheckClass (fault_set (faults_told (header_of k) chain flags others))) in
@@ -312,15 +313,15 @@ module _ (profile : Profile) (p : Project) where
         (passes_then (mean profile p) (each field_type_step k.fields [] on) (field_headers k.fields) (on (undeclared k.fields)) (overriding k.methods (c ∷ rest) (return_chains profile cs k)) (last (undeclared k.fields) w.flags) (fields_pass k.fields on) w.passed)
 
     chain_pass : (names : List Name) (end : EndOf) → IsChain cs c names end
-        → Passes (mean profile p) (declared_steps profile c (header_of k) (Some (chain_value (names, end))) Ret) (field_headers k.fields ++ overriding k.methods names (return_chains profile cs k)) (Ret (values.CheckClass (fault_set (declaration_faults profile cs k))))
+        → Passes (mean profile p) (check_declared_steps profile c (header_of k) (Some (chain_value (names, end))) Ret) (field_headers k.fields ++ overriding k.methods names (return_chains profile cs k)) (Ret (values.CheckClass (fault_set (declaration_faults profile cs k))))
     chain_pass names end is =
-        subst (λ (ns : List Name). Passes (mean profile p) (declared_steps profile c (header_of k) (Some (chain_value (ns, end))) Ret) (field_headers k.fields ++ overriding k.methods ns (return_chains profile cs k)) (Ret (values.CheckClass (fault_set (declaration_faults profile cs k))))) (sym is.first)
+        subst (λ (ns : List Name). Passes (mean profile p) (check_declared_steps profile c (header_of k) (Some (chain_value (ns, end))) Ret) (field_headers k.fields ++ overriding k.methods ns (return_chains profile cs k)) (Ret (values.CheckClass (fault_set (declaration_faults profile cs k))))) (sym is.first)
         (rest_pass is.rest end (subst (λ (ns : List Name). IsChain cs c ns end) is.first is))
 
-    declared_pass : Passes (mean profile p) (declared_steps profile c (header_of k) (option_map chain_value (chain_of cs c)) Ret) (field_headers k.fields ++ overriding k.methods (chain_names (chain_of cs c)) (return_chains profile cs k)) (Ret (values.CheckClass (fault_set (declaration_faults profile cs k))))
+    declared_pass : Passes (mean profile p) (check_declared_steps profile c (header_of k) (option_map chain_value (chain_of cs c)) Ret) (field_headers k.fields ++ overriding k.methods (chain_names (chain_of cs c)) (return_chains profile cs k)) (Ret (values.CheckClass (fault_set (declaration_faults profile cs k))))
     declared_pass =
         let h = has_chain cs c k e in
-        subst (λ (o : Option Chain). Passes (mean profile p) (declared_steps profile c (header_of k) (option_map chain_value o) Ret) (field_headers k.fields ++ overriding k.methods (chain_names o) (return_chains profile cs k)) (Ret (values.CheckClass (fault_set (declaration_faults profile cs k))))) (sym (chain_of_is cs c h.0 h.1 h.2))
+        subst (λ (o : Option Chain). Passes (mean profile p) (check_declared_steps profile c (header_of k) (option_map chain_value o) Ret) (field_headers k.fields ++ overriding k.methods (chain_names o) (return_chains profile cs k)) (Ret (values.CheckClass (fault_set (declaration_faults profile cs k))))) (sym (chain_of_is cs c h.0 h.1 h.2))
         (chain_pass h.0 h.1 h.2)
 
   -- ---- the key
@@ -329,7 +330,7 @@ module _ (profile : Profile) (p : Project) where
   unfolding mean
   by_class c None e = Stays _
   by_class c (Some k) e =
-      Reads (keys.Supers c) (λ v. declared_steps profile c (header_of k) (chain_in v) Ret) (field_headers k.fields ++ overriding k.methods (chain_names (chain_of cs c)) (return_chains profile cs k)) (Ret (values.CheckClass (fault_set (declaration_faults profile cs k)))) (declared_pass c k e)
+      Reads (keys.Supers c) (λ v. check_declared_steps profile c (header_of k) (supers_in v) Ret) (field_headers k.fields ++ overriding k.methods (chain_names (chain_of cs c)) (return_chains profile cs k)) (Ret (values.CheckClass (fault_set (declaration_faults profile cs k)))) (declared_pass c k e)
 
   passes : (c : Name) → Passes (mean profile p) (check_class_steps profile c Ret) (asked_keys profile p (keys.CheckClass c)) (Ret (mean profile p (keys.CheckClass c)))
   unfolding mean asked_keys
@@ -383,7 +384,7 @@ module _ (c : Name) where
     ),
   )
 
-  fits_chain : (profile : Profile) (h : HeaderValue) (chain : Option ChainValue) → Fitting (declared_steps profile c h chain Ret)
+  fits_chain : (profile : Profile) (h : HeaderValue) (chain : Option ChainValue) → Fitting (check_declared_steps profile c h chain Ret)
   unfolding Fits
   fits_chain profile h chain =
       each_fits (keys.CheckClass c) field_type_step (λ (f : Field) flags q g. fits_type f.ty (λ b. q (flags ++ b ∷ [])) (λ b. g (flags ++ b ∷ []))) h.fields []
@@ -393,7 +394,7 @@ module _ (c : Name) where
   fits_header : (profile : Profile) (o : Option HeaderValue) → Fitting (check_class_by profile c o Ret)
   unfolding Fits
   fits_header profile None = refl
-  fits_header profile (Some h) = (omega arith, λ v. fits_chain profile h (chain_in v))
+  fits_header profile (Some h) = (omega arith, λ v. fits_chain profile h (supers_in v))
 
   fits : (profile : Profile) → Fitting (check_class_steps profile c Ret)
   unfolding Fits

@@ -6,7 +6,6 @@ use Rattle.mj_tree.specs.declared.place.Place.TheVariants as places
 use Rattle.mj_answer.specs.declared.code.Code.{Code}
 use Rattle.mj_answer.specs.declared.code.Code.TheVariants.{E203, E205, E206}
 use Rattle.mj_answer.specs.declared.diagnostic.Diagnostic.{Diagnostic}
-use Rattle.mj_classes.proofs.Tables.{all_append}
 use Rattle.mj_project.specs.Repeats.{repeats}
 use Rattle.mj_rules.specs.FaultLists.{when_fault, each_numbered}
 use Rattle.answer_bytes.specs.Storable.{IsClassPlace, AreClassFaults}
@@ -15,10 +14,8 @@ use Rattle.result_bytes.specs.declared.parts.ChainEnd.TheVariants as ends
 use Rattle.result_bytes.specs.Payloads.{HeaderValue, ChainValue}
 use Rattle.body_query.specs.Bounds.{bound}
 use Rattle.body_query.proofs.Bounds.{small}
-use Rattle.answer_queries.specs.Told.{superclass_told, cycle_told, chain_told, field_told, method_told, fields_told, methods_told, faults_told}
-
-both_in : (xs ys : List Diagnostic) → AreClassFaults xs → AreClassFaults ys → AreClassFaults (xs ++ ys)
-both_in xs ys h g = all_append (λ (d : Diagnostic). IsClassPlace d.place) xs ys h g
+use Rattle.member_queries.proofs.Places.{places_append}
+use Rattle.answer_queries.specs.Told.{superclass_told, cycle_told, chain_told, field_told, method_told, header_field_faults, header_method_faults, faults_told}
 
 when_in : (b : Bool) (place : Place) (code : Code) → IsClassPlace place → AreClassFaults (when_fault b place code)
 when_in true place code h = (h, tt)
@@ -27,11 +24,11 @@ when_in false place code h = tt
 each_in : (faults : ℕ → Bool → Bool → List Diagnostic) → ((n : ℕ) (a b : Bool) → AreClassFaults (faults n a b)) → (n : ℕ) (xs flags : List Bool) → AreClassFaults (each_numbered faults n xs flags)
 each_in faults h n [] flags = tt
 each_in faults h n (x ∷ xs) [] = tt
-each_in faults h n (x ∷ xs) (b ∷ flags) = both_in (faults n b x) (each_numbered faults (n + 1) xs flags) (h n b x) (each_in faults h (n + 1) xs flags)
+each_in faults h n (x ∷ xs) (b ∷ flags) = places_append (faults n b x) (each_numbered faults (n + 1) xs flags) (h n b x) (each_in faults h (n + 1) xs flags)
 
 field_in : (n : ℕ) (repeated undeclared : Bool) → AreClassFaults (field_told n repeated undeclared)
 field_in n repeated undeclared =
-    both_in (when_fault repeated (places.Field (bound n)) E203) (when_fault undeclared (places.Field (bound n)) E206) (when_in repeated (places.Field (bound n)) E203 (small n)) (when_in undeclared (places.Field (bound n)) E206 (small n))
+    places_append (when_fault repeated (places.Field (bound n)) E203) (when_fault undeclared (places.Field (bound n)) E206) (when_in repeated (places.Field (bound n)) E203 (small n)) (when_in undeclared (places.Field (bound n)) E206 (small n))
 
 method_in : (n : ℕ) (repeated other : Bool) → AreClassFaults (method_told n repeated other)
 method_in n true other = (small n, tt)
@@ -51,10 +48,10 @@ cycle_in (ends.Repeated u) = (tt, tt)
 
 chain_in : (chain : Option ChainValue) → AreClassFaults (chain_told chain)
 chain_in None = tt
-chain_in (Some chain) = both_in (superclass_told chain.classes chain.end) (cycle_told chain.end) (superclass_in chain.classes chain.end) (cycle_in chain.end)
+chain_in (Some chain) = places_append (superclass_told chain.classes chain.end) (cycle_told chain.end) (superclass_in chain.classes chain.end) (cycle_in chain.end)
 
 pub told_in_class : (h : HeaderValue) (chain : Option ChainValue) (undeclared others : List Bool) → AreClassFaults (faults_told h chain undeclared others)
 unfolding faults_told
 told_in_class h chain undeclared others =
-    both_in (chain_told chain) (fields_told h undeclared ++ methods_told h others) (chain_in chain)
-    (both_in (fields_told h undeclared) (methods_told h others) (each_in field_told field_in 0 undeclared (repeats (map (λ f. f.name) h.fields))) (each_in method_told method_in 0 others (repeats h.methods)))
+    places_append (chain_told chain) (header_field_faults h undeclared ++ header_method_faults h others) (chain_in chain)
+    (places_append (header_field_faults h undeclared) (header_method_faults h others) (each_in field_told field_in 0 undeclared (repeats (map (λ f. f.name) h.fields))) (each_in method_told method_in 0 others (repeats h.methods)))

@@ -2,13 +2,12 @@
 use Rattle.std.proofs.Common.{◌≡◌, ℕ, suc, ◌+◌, List, [], ◌∷◌, map, slice_get, Option, Some, refl, sym, ap, ap₂, ◌∙◌, arith}
 use Rattle.mj_tree.specs.Trees.{Name, File}
 use Rattle.mj_project.specs.Projects.{SourceFile, names_of, IsProject}
-use Rattle.mj_rules.specs.Sentences as sentences
-use Rattle.mj_rules.specs.Sentences.{file_of}
+use Rattle.mj_rules.specs.Sentences.{file_of, trees_of}
 use Rattle.recorder.specs.Projects.{Project}
 use Rattle.query_rules.specs.Items.{tree_at}
 use Rattle.text_queries.proofs.Files.{tree_by_name}
 use Rattle.member_queries.proofs.Tables.{map_twice}
-use Rattle.answer_queries.specs.Trees.{NamedTree, trees_of}
+use Rattle.answer_queries.specs.Trees.{NamedTree}
 
 abbrev pub read_file : SourceFile → NamedTree
 read_file f = (f.name, file_of f.bytes)
@@ -32,5 +31,5 @@ module _ (p : Project) (is : IsProject p) where
   pub read_by_name : map (tree_of_name p) (names_of p) ≡ read_files p
   read_by_name = read_from 0 p (λ j f e. let start : 0 + j ≡ j = omega arith in ap (slice_get p) start ∙ e)
 
-pub trees_same : (p : Project) → trees_of (read_files p) ≡ sentences.trees_of p
+pub trees_same : (p : Project) → map (λ (f : NamedTree). f.1) (read_files p) ≡ trees_of p
 trees_same p = map_twice read_file (λ (f : NamedTree). f.1) p

@@ -23,6 +23,7 @@ use Rattle.profiles.specs.declared.profile.Profile.{Profile}
 use Rattle.profiles.specs.declared.profile.Profile.TheVariants.{One, Two}
 use Rattle.mj_rules.specs.Worlds.{sig_of, world_of}
 use Rattle.mj_rules.specs.FaultLists.{when_fault, same_type, same_types as same_formals, accepts, override_faults, nearest_sig, rest_of}
+use Rattle.mj_rules.proofs.Signatures.{itself}
 use Rattle.query_rules.specs.BodyReads.{accept_reads}
 use Rattle.query_rules.specs.Reads.{return_chain}
 use Rattle.answer_queries.specs.Signatures.{same_types, same_signature}
@@ -30,15 +31,9 @@ use Rattle.answer_queries.proofs.Rests.{behind}
 
 -- ---- types
 
-alike : (t : Ty) → same_type t t ≡ true
-alike types.Int = refl
-alike types.Boolean = refl
-alike types.IntArray = refl
-alike (types.Class c) = (bytes_eq-Decides c c).1 refl
-
 all_alike : (ts : List Ty) → same_types ts ts ≡ true
 all_alike [] = refl
-all_alike (t ∷ ts) = ap₂ (λ a b. a && b) (alike t) (all_alike ts)
+all_alike (t ∷ ts) = ap₂ (λ a b. a && b) (itself t) (all_alike ts)
 
 formals_told : (vs : List Variable) (ts : List Ty) → same_formals vs ts ≡ same_types (map (λ (v : Variable). v.ty) vs) ts
 formals_told [] [] = refl
@@ -59,7 +54,7 @@ clash profile cs (Some own) (Some other) = not (may profile cs own other)
 
 -- a method may override one with its own types
 own_types : (profile : Profile) (cs : List ClassDecl) (m : Method) → clash profile cs (Some (sig_of m)) (Some (sig_of m)) ≡ false
-own_types One cs m = ap₂ (λ a b. not (a && b)) (alike m.returns) (all_alike (map (λ (v : Variable). v.ty) m.formals))
+own_types One cs m = ap₂ (λ a b. not (a && b)) (itself m.returns) (all_alike (map (λ (v : Variable). v.ty) m.formals))
 own_types Two cs m = ap₂ (λ a b. not (a && b)) (all_alike (map (λ (v : Variable). v.ty) m.formals)) (from_accepted (world_of cs) m.returns m.returns (inl refl))
 
 pub override_told : (profile : Profile) (cs : List ClassDecl) (n : ℕ) (m : Method) (o : Option Sig) → override_faults profile cs n m o ≡ when_fault (clash profile cs (Some (sig_of m)) o) (places.Method n) E205

@@ -6,14 +6,14 @@ use Rattle.mj_tree.specs.declared.place.Place.TheVariants as places
 use Rattle.mj_answer.specs.declared.code.Code.{Code}
 use Rattle.mj_answer.specs.declared.code.Code.TheVariants.{E102, E103}
 use Rattle.mj_answer.specs.declared.diagnostic.Diagnostic.{Diagnostic}
+use Rattle.mj_classes.proofs.Tables.{all_append}
 use Rattle.mj_project.specs.Repeats.{repeats}
 use Rattle.mj_rules.specs.FaultLists.{when_fault, each_numbered, has_main, file_faults}
+use Rattle.mj_rules.proofs.Composing.{SameFaults}
+use Rattle.item_ids.proofs.Lists.{all_from}
 use Rattle.answer_bytes.specs.Storable.{IsProjectPlace, AreProjectFaults}
-use Rattle.query_rules.proofs.Firsts.{all_append}
 use Rattle.recorder.proofs.Recorded.{all_at}
 use Rattle.body_query.proofs.Bounds.{small}
-use Rattle.body_query.proofs.Sets.{Same}
-use Rattle.member_queries.proofs.Tables.{all_from}
 use Rattle.answer_queries.specs.Trees.{NamedTree}
 use Rattle.answer_queries.specs.ProjectFaults.{any_main, files_faults, NamedClass, declared_names, class_names, repeated_class, repeat_faults, classes_faults, project_faults}
 
@@ -54,5 +54,5 @@ module _ (files : List NamedTree) where
       all_append InProject (files_faults false files) (classes_faults files classes ++ last) (files_placed false files)
       (all_append InProject (classes_faults files classes) last (each_placed 0 classes (repeats (class_names classes))) (when_placed (not (any_main files)) places.Project E102 tt))
 
-pub same_places : (xs ys : List Diagnostic) → Same ys xs → AreProjectFaults xs → AreProjectFaults ys
+pub same_places : (xs ys : List Diagnostic) → SameFaults ys xs → AreProjectFaults xs → AreProjectFaults ys
 same_places xs ys same h = all_from InProject ys (λ d c. all_at InProject xs d ((same d).0 c) h)

@@ -1,30 +1,20 @@
 -- The answer for the whole project.
-use Rattle.std.specs.Prelude.{List, [], ◌∷◌, ◌++◌, Option, Some, None}
+use Rattle.std.specs.Prelude.{List, [], ◌∷◌, ◌++◌}
 use Rattle.item_ids.specs.declared.key.Key.TheVariants as keys
 use Rattle.mj_tree.specs.Trees.{Name}
 use Rattle.mj_answer.specs.declared.diagnostic.Diagnostic.{Diagnostic}
-use Rattle.mj_answer.specs.AnswerValues.{ClassTableValue, ClassAnswerValue, AnswerValue}
+use Rattle.mj_answer.specs.AnswerValues.{ClassAnswerValue, AnswerValue}
+use Rattle.result_bytes.specs.Parts.{faults_in, files_in, index_in}
 use Rattle.result_bytes.specs.declared.files.IndexRow.{IndexRow}
 use Rattle.result_bytes.specs.declared.value.Value.{Value}
 use Rattle.result_bytes.specs.declared.value.Value.TheVariants as values
-use Rattle.result_bytes.specs.declared.value.Value.TheVariants.{Members}
 use Rattle.recorder.specs.Programs.{Prog, Ask, each}
 use Rattle.query_rules.specs.Items.{fault_set}
-use Rattle.text_queries.specs.Facts.{names_in}
-use Rattle.member_queries.specs.Facts.{rows_in, faults_in}
+use Rattle.body_questions.specs.Members.{table_in}
 use Rattle.answer_queries.specs.Trees.{tree_step}
 use Rattle.answer_queries.specs.ProjectFaults.{project_faults}
 
 -- ---- a class
-
-abbrev pub table_of : Option ClassTableValue → ClassTableValue
-table_of None = record { fields = []; methods = [] }
-table_of (Some table) = table
-
--- the fields and methods in an answer
-abbrev pub table_in : Value → ClassTableValue
-table_in (Members table) = table_of table
-table_in _ = table_of None
 
 -- the class of this name, by its members and its diagnostics
 abbrev pub class_answer : Name → Value → Value → ClassAnswerValue
@@ -45,10 +35,10 @@ answer faults classes = record { faults = fault_set faults; classes = classes }
 -- Index, then Members and Diags of each class, where these are the project's own diagnostics
 abbrev pub classes_steps : List Diagnostic → (AnswerValue → Prog) → Prog
 classes_steps faults k =
-    Ask keys.Index (λ v. each class_step (rows_in v) [] (λ classes. k (answer faults classes)))
+    Ask keys.Index (λ v. each class_step (index_in v) [] (λ classes. k (answer faults classes)))
 
 -- Files, then Tree of each file, then the classes
 abbrev pub answer_steps : (Value → Prog) → Prog
 answer_steps k =
-    Ask keys.Files (λ v. each tree_step (names_in v) [] (λ files.
+    Ask keys.Files (λ v. each tree_step (files_in v) [] (λ files.
     classes_steps (project_faults files) (λ a. k (values.Answer a))))

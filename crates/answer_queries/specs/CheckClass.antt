@@ -13,13 +13,14 @@ use Rattle.profiles.specs.declared.profile.Profile.{Profile}
 use Rattle.profiles.specs.declared.profile.Profile.TheVariants.{One, Two}
 use Rattle.mj_rules.specs.FaultLists.{same_type}
 use Rattle.result_bytes.specs.Payloads.{HeaderValue, ChainValue}
+use Rattle.result_bytes.specs.Parts.{header_in, supers_in}
 use Rattle.result_bytes.specs.declared.value.Value.{Value}
 use Rattle.result_bytes.specs.declared.value.Value.TheVariants as values
 use Rattle.recorder.specs.Programs.{Prog, Ask, each}
 use Rattle.query_rules.specs.Items.{fault_set}
-use Rattle.body_questions.specs.Facts.{is_declared_in, chain_classes, method_in}
+use Rattle.body_questions.specs.Classes.{is_declared_in, chain_classes}
+use Rattle.body_questions.specs.Members.{method_in}
 use Rattle.body_questions.specs.Questions.{descends_step}
-use Rattle.member_queries.specs.Facts.{header_in, chain_in}
 use Rattle.answer_queries.specs.Signatures.{same_types, same_signature}
 use Rattle.answer_queries.specs.Told.{faults_told}
 
@@ -80,9 +81,9 @@ override_step profile c methods (Some s) k =
 -- ---- the class
 
 -- a class with this header and this chain
-abbrev pub declared_steps
+abbrev pub check_declared_steps
     : Profile → Name → HeaderValue → Option ChainValue → (Value → Prog) → Prog
-declared_steps profile c h chain k =
+check_declared_steps profile c h chain k =
     each field_type_step h.fields []
     (λ undeclared. override_step profile c h.methods
     (overridden_class h.methods (chain_classes chain))
@@ -91,7 +92,7 @@ declared_steps profile c h chain k =
 abbrev pub check_class_by : Profile → Name → Option HeaderValue → (Value → Prog) → Prog
 check_class_by profile c None k = k (values.CheckClass [])
 check_class_by profile c (Some h) k =
-    Ask (keys.Supers c) (λ v. declared_steps profile c h (chain_in v) k)
+    Ask (keys.Supers c) (λ v. check_declared_steps profile c h (supers_in v) k)
 
 abbrev pub check_class_steps : Profile → Name → (Value → Prog) → Prog
 check_class_steps profile c k = Ask (keys.Header c) (λ v. check_class_by profile c (header_in v) k)

@@ -10,7 +10,7 @@ use Rattle.mj_classes.specs.Declarations.{declarations}
 use Rattle.mj_project.specs.Repeats.{repeats}
 use Rattle.mj_rules.specs.FaultLists.{fault, when_fault, each_numbered, has_main, file_faults}
 use Rattle.body_query.specs.Bounds.{bound}
-use Rattle.answer_queries.specs.Trees.{NamedTree, trees_of}
+use Rattle.answer_queries.specs.Trees.{NamedTree}
 use Rattle.answer_queries.specs.declared.project_faults.DeclaredName.{DeclaredName}
 
 -- ---- files
@@ -41,7 +41,7 @@ named_classes ks = map named_class ks
 
 -- all classes that the files declare, in order
 abbrev pub declared_names : List NamedTree → List NamedClass
-declared_names files = named_classes (declarations (trees_of files))
+declared_names files = named_classes (declarations (map (λ f. f.1) files))
 
 abbrev pub class_names : List NamedClass → List Name
 class_names classes = map (λ c. c.name) classes

@@ -41,16 +41,16 @@ method_told n repeated other =
     if repeated then fault (places.Method (bound n)) E204 ∷ []
     else when_fault other (places.Method (bound n)) E205
 
-abbrev pub fields_told : HeaderValue → List Bool → List Diagnostic
-fields_told h undeclared =
+abbrev pub header_field_faults : HeaderValue → List Bool → List Diagnostic
+header_field_faults h undeclared =
     each_numbered field_told 0 undeclared (repeats (map (λ f. f.name) h.fields))
 
-abbrev pub methods_told : HeaderValue → List Bool → List Diagnostic
-methods_told h others = each_numbered method_told 0 others (repeats h.methods)
+abbrev pub header_method_faults : HeaderValue → List Bool → List Diagnostic
+header_method_faults h others = each_numbered method_told 0 others (repeats h.methods)
 
 -- all that is wrong with the declarations of a class, by flags: for each field whether its type is
 -- undeclared, for each method whether it overrides one that it may not
 unfoldable pub faults_told
     : HeaderValue → Option ChainValue → List Bool → List Bool → List Diagnostic
 faults_told h chain undeclared others =
-    chain_told chain ++ (fields_told h undeclared ++ methods_told h others)
+    chain_told chain ++ (header_field_faults h undeclared ++ header_method_faults h others)

@@ -3,16 +3,13 @@ use Rattle.std.specs.Prelude.{List, [], ◌∷◌, ◌++◌, map, Option}
 use Rattle.std.specs.Arc.{arc_value}
 use Rattle.item_ids.specs.declared.key.Key.TheVariants as keys
 use Rattle.mj_tree.specs.Trees.{Name, File}
+use Rattle.result_bytes.specs.Parts.{tree_in}
 use Rattle.recorder.specs.Programs.{Prog, Ask}
-use Rattle.text_queries.specs.Facts.{tree_in}
 use Rattle.answer_queries.specs.declared.trees.ParsedFile.{ParsedFile}
 
 -- a file's name, and its tree where it is a sentence
 abbrev pub NamedTree : Type 0
 NamedTree = Name × Option File
-
-abbrev pub trees_of : List NamedTree → List (Option File)
-trees_of files = map (λ f. f.1) files
 
 -- Tree of one more file
 abbrev pub tree_step : Name → List NamedTree → (List NamedTree → Prog) → Prog

@@ -7,14 +7,12 @@ ghost use Rattle.recorder.specs.Programs.{Goes, GivesUp};
 ghost use Rattle.answer_queries.specs.Answer.{answer, classes_steps, answer_steps};
 
 use crate::classes::ask_all_classes;
-use crate::facts::{ascending_rows, names_in};
 use crate::project_faults::project_faults;
 use crate::trees::ask_all_trees;
 use answer_bytes::WholeAnswer;
-use body_questions::read;
 use item_ids::Key;
 use mj_answer::{Answer, ClassAnswer, Diagnostic, fault_set};
-use recorder::{Reader, Recorder, RunFault};
+use recorder::{Reader, Recorder, RunFault, read};
 use result_bytes::Value;
 use std::alloc::Global;
 
@@ -42,7 +40,7 @@ fn ask_classes<D: Reader>(
     ensures follows { D.follows recorder.old.inner recorder.new.inner }
 {
     let index = read(recorder, Key::Index)?;
-    let classes = ask_all_classes(alloc, recorder, ascending_rows(&index))?;
+    let classes = ask_all_classes(alloc, recorder, index.value().index())?;
     Ok(whole_answer(faults, classes))
 }
 
@@ -53,7 +51,7 @@ pub fn run_answer<D: Reader>(alloc: Global, recorder: &mut Recorder<D>) -> Resul
     ensures follows { D.follows recorder.old.inner recorder.new.inner }
 {
     let names = read(recorder, Key::Files)?;
-    let files = ask_all_trees(alloc, recorder, names_in(names.value()))?;
+    let files = ask_all_trees(alloc, recorder, names.value().files())?;
     let faults = project_faults(alloc, &files)?;
     let whole = ask_classes(alloc, recorder, faults)?;
     Ok(Value::Answer(whole))

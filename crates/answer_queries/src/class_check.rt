@@ -2,20 +2,18 @@
 ghost use Rattle.std.specs.Prelude.{◌≡◌, [], IfOk, IfErr, option_copied};
 ghost use Rattle.item_ids.specs.declared.key.Key.TheVariants as keys;
 ghost use Rattle.recorder.specs.Programs.{Goes, GivesUp, Ask};
-ghost use Rattle.member_queries.specs.Facts.{chain_in as chain_told};
-ghost use Rattle.body_questions.specs.Facts.{chain_classes};
-ghost use Rattle.answer_queries.specs.CheckClass.{declared_steps, check_class_by, check_class_steps};
+ghost use Rattle.result_bytes.specs.Parts.{supers_in};
+ghost use Rattle.body_questions.specs.Classes.{chain_classes};
+ghost use Rattle.answer_queries.specs.CheckClass.{check_declared_steps, check_class_by, check_class_steps};
 
 use crate::fields::ask_fields;
 use crate::overrides::{ask_overrides, overridden_class};
 use crate::told::faults_of;
 use answer_bytes::Faults;
-use body_questions::read;
 use item_ids::Key;
-use member_queries::{chain_in, header_in};
 use mj_lexer::Name;
 use profiles::Profile;
-use recorder::{Reader, Recorder, RunFault};
+use recorder::{Reader, Recorder, RunFault, read};
 use result_bytes::{Header, Supers, Value};
 use std::alloc::Global;
 
@@ -39,10 +37,10 @@ fn check_declared<D: Reader>(
     chain: Option<&Supers>,
 ) -> Result<Value, RunFault>
     ensures ok { IfOk result (λ v. Goes
-        (declared_steps profile class.now header.now (option_copied chain.entry)) recorder.old v
+        (check_declared_steps profile class.now header.now (option_copied chain.entry)) recorder.old v
         recorder.new) }
     ensures err { IfErr result (λ e. GivesUp
-        (declared_steps profile class.now header.now (option_copied chain.entry)) recorder.old e
+        (check_declared_steps profile class.now header.now (option_copied chain.entry)) recorder.old e
         recorder.new) }
     ensures follows { D.follows recorder.old.inner recorder.new.inner }
 {
@@ -62,15 +60,15 @@ fn check_header<D: Reader>(
     header: &Header,
 ) -> Result<Value, RunFault>
     ensures ok { IfOk result (λ v. Goes (λ k. Ask (keys.Supers class.now)
-        (λ told. declared_steps profile class.now header.now (chain_told told) k)) recorder.old v
+        (λ told. check_declared_steps profile class.now header.now (supers_in told) k)) recorder.old v
         recorder.new) }
     ensures err { IfErr result (λ e. GivesUp (λ k. Ask (keys.Supers class.now)
-        (λ told. declared_steps profile class.now header.now (chain_told told) k)) recorder.old e
+        (λ told. check_declared_steps profile class.now header.now (supers_in told) k)) recorder.old e
         recorder.new) }
     ensures follows { D.follows recorder.old.inner recorder.new.inner }
 {
     let answer = read(recorder, Key::Supers(class.copy(alloc)?))?;
-    let chain = chain_in(answer.value());
+    let chain = answer.value().supers();
     check_declared(alloc, recorder, profile, class, header, chain)
 }
 
@@ -117,5 +115,5 @@ pub fn run_check_class<D: Reader>(
     ensures follows { D.follows recorder.old.inner recorder.new.inner }
 {
     let answer = read(recorder, Key::Header(class.copy(alloc)?))?;
-    check_told(alloc, recorder, profile, class, header_in(answer.value()))
+    check_told(alloc, recorder, profile, class, answer.value().header())
 }

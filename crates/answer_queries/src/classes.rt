@@ -3,18 +3,44 @@ ghost use Rattle.std.specs.Prelude.{◌≡◌, ◌++◌, ◌∷◌, [], map, IfO
 ghost use Rattle.std.specs.List.{AllByRecursion};
 ghost use Rattle.answer_bytes.specs.Storable.{IsClassStorable};
 ghost use Rattle.recorder.specs.Programs.{Goes, GivesUp, each};
+ghost use Rattle.body_questions.specs.Members.{table_in as table_told};
 ghost use Rattle.answer_queries.specs.Answer.{class_answer as class_told, class_step};
 
-use crate::facts::class_answer;
-use body_questions::read;
 use fingerprint::Sealed;
 use item_ids::Key;
-use mj_answer::ClassAnswer;
+use mj_answer::{ClassAnswer, ClassTable, copy_faults};
 use mj_lexer::Name;
-use recorder::{Reader, Recorder, RunFault};
-use result_bytes::IndexRow;
+use recorder::{Reader, Recorder, RunFault, read};
+use result_bytes::{IndexRow, Value};
 use std::alloc::{AllocError, Global};
 use std::sync::Arc;
+
+/// The fields and methods in an answer.
+fn table_in(alloc: Global, value: &Value) -> Result<ClassTable, AllocError>
+    ensures { IfOk result (λ table. table ≡ table_told value.now) }
+{
+    match value.members() {
+        Some(members) => members.table().copy(alloc),
+        None => Ok(ClassTable::new(Vec::new(alloc), Vec::new(alloc))),
+    }
+}
+
+/// The answer for a class of this name, by its members and its diagnostics.
+fn class_answer(
+    alloc: Global,
+    name: &Name,
+    members: &Sealed,
+    diags: &Sealed,
+) -> Result<ClassAnswer, AllocError>
+    ensures value { IfOk result (λ class.
+        class ≡ class_told name.now members.now diags.now) }
+    ensures storable { IfOk result IsClassStorable }
+{
+    let name = name.copy(alloc)?;
+    let table = table_in(alloc, members.value())?;
+    let faults = copy_faults(alloc, diags.value().faults())?;
+    Ok(ClassAnswer::new(name, table, faults))
+}
 
 /// Adds the answer for a class.
 fn add_class(

@@ -1,25 +1,13 @@
 //! The types of fields that are classes which aren't declared.
 ghost use Rattle.std.specs.Prelude.{◌≡◌, ◌++◌, ◌∷◌, [], IfOk, IfErr, OnOk};
 ghost use Rattle.recorder.specs.Programs.{Goes, GivesUp, each};
-ghost use Rattle.body_questions.specs.Facts.{is_declared_in as declared_told};
 ghost use Rattle.answer_queries.specs.CheckClass.{type_step, field_type_step};
 
-use body_questions::read;
+use body_questions::is_declared_in;
 use item_ids::Key;
 use mj_tree::{Field, Ty};
-use recorder::{Reader, Recorder, RunFault};
-use result_bytes::Value;
+use recorder::{Reader, Recorder, RunFault, read};
 use std::alloc::{AllocError, Global};
-
-/// Whether an answer has that its class is declared.
-fn is_declared_in(value: &Value) -> bool
-    ensures { result ≡ declared_told value.now }
-{
-    match value {
-        Value::Header(header) => header.is_some(),
-        _ => false,
-    }
-}
 
 /// Whether a type is a class that isn't declared, by the header of the class.
 fn ask_type<D: Reader>(alloc: Global, recorder: &mut Recorder<D>, ty: &Ty) -> Result<bool, RunFault>

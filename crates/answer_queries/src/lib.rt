@@ -6,7 +6,6 @@
 mod answer;
 mod class_check;
 mod classes;
-mod facts;
 mod fields;
 mod laws;
 mod overrides;

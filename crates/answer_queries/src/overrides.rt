@@ -1,32 +1,25 @@
 //! The methods that override one that they may not.
-ghost use Rattle.std.specs.Prelude.{◌≡◌, ◌++◌, ◌∷◌, [], false, map, find, Some, IfOk, IfErr, OnOk, option_map, option_copied};
-ghost use Rattle.std.specs.Str.{bytes_eq};
+ghost use Rattle.std.specs.Prelude.{◌≡◌, ◌++◌, ◌∷◌, [], false, map, Some, IfOk, IfErr, OnOk, option_map, option_copied};
 ghost use Rattle.std.specs.Arc.{arc_value};
 ghost use Rattle.item_ids.specs.declared.key.Key.TheVariants as keys;
 ghost use Rattle.mj_tree.specs.declared.tree.Ty.TheVariants as types;
-ghost use Rattle.mj_rules.specs.FaultLists.{same_type as is_same_type};
 ghost use Rattle.profiles.specs.declared.profile.Profile.TheVariants.{Two};
 ghost use Rattle.recorder.specs.Programs.{Goes, GivesUp, Ask, each};
-ghost use Rattle.body_questions.specs.Facts.{methods_in as methods_told, method_in as method_told, row_types};
+ghost use Rattle.body_questions.specs.Members.{row_types};
 ghost use Rattle.answer_queries.specs.Signatures.{same_types as are_same_types, same_signature as is_same_signature};
 ghost use Rattle.answer_queries.specs.CheckClass.{overridden_class as overridden, accept_step, may_step, override_flag, override_flag_step, override_step};
 
 use crate::fields::add_flag;
-use body_questions::{ask_descends, read};
+use body_questions::{ask_descends, method_row};
 use item_ids::Key;
-use mj_answer::{MethodRow, find_by_name};
+use mj_answer::MethodRow;
 use mj_lexer::Name;
+use mj_rules::same_type;
 use mj_tree::Ty;
 use profiles::Profile;
-use recorder::{Reader, Recorder, RunFault};
+use recorder::{Reader, Recorder, RunFault, read};
 use result_bytes::Value;
 use std::alloc::{AllocError, Global};
-
-fn same_type(ty: &Ty, other: &Ty) -> bool
-    ensures { result ≡ is_same_type ty.now other.now }
-{
-    ty == other
-}
 
 /// Whether these are the same types in the same order.
 fn same_types(types: &[Ty], others: &[Ty]) -> bool
@@ -155,17 +148,6 @@ fn ask_override<D: Reader>(
             Ok(!may)
         }
         _ => Ok(false),
-    }
-}
-
-/// The row of a method in an answer.
-fn method_row<'v>(value: &'v Value, name: &Name) -> Option<&'v MethodRow>
-    ensures { option_copied result
-        ≡ find (λ row. bytes_eq row.name name.now) (methods_told value.now) }
-{
-    match value {
-        Value::Members(Some(members)) => find_by_name(members.table().methods(), name),
-        _ => None,
     }
 }
 

@@ -1,5 +1,5 @@
 //! The diagnostics of a project itself, by the trees of its files.
-ghost use Rattle.std.specs.Prelude.{◌≡◌, ◌++◌, ◌≤◌, [], if◌then◌else◌, false, is_some, option_copied, slice_get, IfOk, OnOk};
+ghost use Rattle.std.specs.Prelude.{◌≡◌, ◌++◌, ◌≤◌, [], false, is_some, option_copied, slice_get, IfOk, OnOk};
 ghost use Rattle.mj_classes.specs.Declarations.{classes_of, number_classes};
 ghost use Rattle.mj_project.specs.Repeats.{repeats as repeated_names};
 ghost use Rattle.mj_rules.specs.FaultLists.{has_main as has_main_in, file_faults};
@@ -158,26 +158,25 @@ fn repeated_classes(alloc: Global, classes: &[DeclaredName]) -> Result<Vec<bool>
     repeats(alloc, &names)
 }
 
-/// Adds the diagnostic of a class, given by its file and its number there, if an earlier class has its name.
+/// Adds the diagnostic of a class that has the name of an earlier one.
 fn add_repeated_class(
     alloc: Global,
     faults: &mut Vec<Diagnostic>,
     files: &[ParsedFile],
-    file: usize,
-    number: usize,
-    repeated: bool,
+    class: &DeclaredName,
 ) -> Result<(), AllocError>
     ensures { OnOk result
         (faults.new.items
         ≡ faults.old.items
-        ++ (if repeated then repeated_class (slice_get (named_trees files.now) file) number
-        else [])) }
+        ++ repeated_class (slice_get (named_trees files.now) class.now.file) class.now.number) }
 {
-    if !repeated || file >= files.len() {
-        return Ok(());
+    match files.get(class.file) {
+        Some(file) => {
+            let place = Place::ClassOf(file.name.copy(alloc)?, class.number);
+            note_fault(faults, place, Code::E104)
+        }
+        None => Ok(()),
     }
-    let place = Place::ClassOf(files[file].name.copy(alloc)?, number);
-    note_fault(faults, place, Code::E104)
 }
 
 /// Adds the diagnostics of the classes whose names earlier classes have.
@@ -195,14 +194,9 @@ fn add_repeated_classes(
     let repeated = repeated_classes(alloc, classes)?;
     let flags = repeated.as_slice();
     for (number, class) in classes.iter().enumerate() {
-        add_repeated_class(
-            alloc,
-            faults,
-            files,
-            class.file,
-            class.number,
-            flags[number],
-        )?;
+        if flags[number] {
+            add_repeated_class(alloc, faults, files, class)?;
+        }
     }
     Ok(())
 }

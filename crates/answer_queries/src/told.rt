@@ -1,16 +1,17 @@
 //! The diagnostics of a class's declarations that follow from answers.
-ghost use Rattle.std.specs.Prelude.{◌≡◌, ◌++◌, map, IfOk, OnOk, option_copied};
+ghost use Rattle.std.specs.Prelude.{◌≡◌, ◌++◌, IfOk, OnOk, option_copied};
 ghost use Rattle.mj_project.specs.Repeats.{repeats as repeats_of};
 ghost use Rattle.mj_rules.specs.FaultLists.{each_numbered};
 ghost use Rattle.query_rules.specs.Items.{fault_set};
-ghost use Rattle.answer_queries.specs.Told.{superclass_told, cycle_told, chain_told, field_told, method_told, fields_told, methods_told, faults_told};
+ghost use Rattle.answer_queries.specs.Told.{superclass_told, cycle_told, chain_told, field_told, method_told, header_field_faults, header_method_faults, faults_told};
 
 use answer_bytes::Faults;
 use body_query::{class_fault_set, note_fault};
 use mj_answer::{Code, Diagnostic};
 use mj_lexer::Name;
 use mj_project::repeats;
-use mj_tree::{Field, Place};
+use mj_rules::repeated_fields;
+use mj_tree::Place;
 use result_bytes::{ChainEnd, Header, Supers};
 use std::alloc::{AllocError, Global};
 
@@ -111,17 +112,6 @@ fn add_methods(
     Ok(())
 }
 
-/// For each field, whether its name stands before it.
-fn repeated_fields(alloc: Global, fields: &[Field]) -> Result<Vec<bool>, AllocError>
-    ensures { IfOk result (λ flags. flags.items ≡ repeats_of (map (λ f. f.name) fields.now)) }
-{
-    let mut names = Vec::new(alloc);
-    for field in fields {
-        names.push(field.name.as_str())?;
-    }
-    repeats(alloc, &names)
-}
-
 /// For each method, whether its name stands before it.
 fn repeated_methods(alloc: Global, methods: &[Name]) -> Result<Vec<bool>, AllocError>
     ensures { IfOk result (λ flags. flags.items ≡ repeats_of methods.now) }
@@ -141,7 +131,7 @@ fn add_header_fields(
     undeclared: &[bool],
 ) -> Result<(), AllocError>
     ensures { OnOk result
-        (faults.new.items ≡ faults.old.items ++ fields_told header.now undeclared.now) }
+        (faults.new.items ≡ faults.old.items ++ header_field_faults header.now undeclared.now) }
 {
     let repeated = repeated_fields(alloc, header.fields())?;
     add_fields(faults, repeated.as_slice(), undeclared)
@@ -155,7 +145,7 @@ fn add_header_methods(
     others: &[bool],
 ) -> Result<(), AllocError>
     ensures { OnOk result
-        (faults.new.items ≡ faults.old.items ++ methods_told header.now others.now) }
+        (faults.new.items ≡ faults.old.items ++ header_method_faults header.now others.now) }
 {
     let repeated = repeated_methods(alloc, header.methods())?;
     add_methods(faults, repeated.as_slice(), others)

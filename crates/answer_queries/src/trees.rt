@@ -2,15 +2,13 @@
 ghost use Rattle.std.specs.Prelude.{◌≡◌, ◌++◌, ◌∷◌, [], IfOk, IfErr, OnOk, option_copied};
 ghost use Rattle.std.specs.Arc.{arc_value};
 ghost use Rattle.recorder.specs.Programs.{Goes, GivesUp, each};
-ghost use Rattle.text_queries.specs.Facts.{tree_in as tree_told};
+ghost use Rattle.result_bytes.specs.Parts.{tree_in};
 ghost use Rattle.answer_queries.specs.Trees.{named_tree, named_trees, tree_step};
 
-use crate::facts::tree_in;
-use body_questions::read;
 use fingerprint::Sealed;
 use item_ids::Key;
 use mj_lexer::Name;
-use recorder::{Reader, Recorder, RunFault};
+use recorder::{Reader, Recorder, RunFault, read};
 use std::alloc::{AllocError, Global};
 use std::sync::Arc;
 use tree_bytes::Tree;
@@ -27,7 +25,7 @@ impl ParsedFile {
     pub fn tree(&self) -> Option<&Tree>
         ensures { option_copied result ≡ (named_tree self.now).1 }
     {
-        tree_in(self.tree.value())
+        self.tree.value().tree()
     }
 }
 
@@ -40,7 +38,7 @@ fn add_file(
 ) -> Result<(), AllocError>
     ensures { OnOk result
         (named_trees files.new.items
-        ≡ named_trees files.old.items ++ (file.now, tree_told (arc_value tree)) ∷ []) }
+        ≡ named_trees files.old.items ++ (file.now, tree_in (arc_value tree)) ∷ []) }
 {
     let name = file.copy(alloc)?;
     files.push(ParsedFile { name, tree })?;

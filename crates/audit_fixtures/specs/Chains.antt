@@ -34,9 +34,9 @@ runs_told chain = sum (map (λ change. length change.executed.now) chain)
 -- ---- audits
 
 -- what an audit says: how many sessions there are and records were run, or its refusal
-abbrev pub said_of : Result Audited AuditFault → Result (ℕ × ℕ) AuditFault
-said_of (Ok a) = Ok (a.sessions, a.runs)
-said_of (Err fault) = Err fault
+abbrev pub said_by_audit : Result Audited AuditFault → Result (ℕ × ℕ) AuditFault
+said_by_audit (Ok a) = Ok (a.sessions, a.runs)
+said_by_audit (Err fault) = Err fault
 
 -- the files are accepted by an audit that says this; the log of its runner was old and is new
 pub record IsAcceptedAs (files : List (List ℕ)) (old new : List Key) (said : ℕ × ℕ) : Type 0 where
@@ -47,7 +47,7 @@ pub record IsAcceptedAs (files : List (List ℕ)) (old new : List Key) (said : �
 
 -- The files are accepted by an audit that finds as many sessions as there are, and runs as many
 -- records as are executed in them.
-pub record AreAccepted (chain : List Change) (files : List (List ℕ)) : Type 0 where
+pub record AreAcceptedFiles (chain : List Change) (files : List (List ℕ)) : Type 0 where
   pub old : List Key
   pub new : List Key
   pub accepted : IsAcceptedAs files old new (length chain, runs_told chain)
@@ -60,7 +60,7 @@ pub record IsWithoutMemory (files : List (List ℕ)) : Type 0 where
 
 -- the files of the chain's sessions are accepted
 abbrev pub IsAudited : List Change → Type 0
-IsAudited chain = (files : List (List ℕ)) × AreFilesOf chain files × AreAccepted chain files
+IsAudited chain = (files : List (List ℕ)) × AreFilesOf chain files × AreAcceptedFiles chain files
 
 -- an audit of them by a runner that had run nothing says this
 pub record IsSaidOf (chain : List Change) (said : Result (ℕ × ℕ) AuditFault) : Type 0 where
@@ -71,4 +71,4 @@ pub record IsSaidOf (chain : List Change) (said : Result (ℕ × ℕ) AuditFault
 -- they are accepted, or there is no memory for one of them
 abbrev pub IsAuditedOrStays : List Change → Type 0
 IsAuditedOrStays chain = (files : List (List ℕ)) × AreFilesOf chain files
-    × (AreAccepted chain files ⊎ IsWithoutMemory files)
+    × (AreAcceptedFiles chain files ⊎ IsWithoutMemory files)

@@ -1,6 +1,6 @@
 //! Auditors that are refused memory: they stay so, and another one begins anew.
 ghost use Rattle.std.specs.Prelude.{◌≡◌, ◌⊎◌, map, IfOk, IsTrue};
-ghost use Rattle.audit_fixtures.specs.Chains.{IsAcceptedAs, AreAccepted, IsWithoutMemory, IsAudited, IsAuditedOrStays, IsSaidOf};
+ghost use Rattle.audit_fixtures.specs.Chains.{IsAcceptedAs, AreAcceptedFiles, IsWithoutMemory, IsAudited, IsAuditedOrStays, IsSaidOf};
 
 use crate::audits::{Said, says, told, wanted};
 use crate::chain::{begins, ends, files_of, runs_of, slices};
@@ -60,7 +60,7 @@ fn is_taken_or_stays(
     files: &[&[u8]],
     runner: &mut MiniJava,
 ) -> bool
-    ensures { IsTrue result → AreAccepted chain.now (map (λ f. f.now) files.now)
+    ensures { IsTrue result → AreAcceptedFiles chain.now (map (λ f. f.now) files.now)
         ⊎ IsWithoutMemory (map (λ f. f.now) files.now) }
 {
     let Some(wanted) = wanted(chain) else {
@@ -119,7 +119,7 @@ fn is_taken(
     runner: &mut MiniJava,
     piece: usize,
 ) -> bool
-    ensures { IsTrue result → AreAccepted chain.now (map (λ f. f.now) files.now) }
+    ensures { IsTrue result → AreAcceptedFiles chain.now (map (λ f. f.now) files.now) }
 {
     let Some(wanted) = wanted(chain) else {
         return false;

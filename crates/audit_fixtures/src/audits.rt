@@ -1,7 +1,7 @@
 //! Audits that are refused memory, and made again.
 ghost use Rattle.std.specs.Prelude.{◌≡◌, [], List, length, map, Ok, IfOk, IfSome, IsTrue};
 ghost use Rattle.item_ids.specs.declared.key.Key.{Key as SpecKey};
-ghost use Rattle.audit_fixtures.specs.Chains.{runs_told, said_of, IsAcceptedAs, AreAccepted, IsAudited};
+ghost use Rattle.audit_fixtures.specs.Chains.{runs_told, said_by_audit, IsAcceptedAs, AreAcceptedFiles, IsAudited};
 
 use crate::chain::{begins, files_of, runs_of, slices};
 use answer_fixtures::Unfit;
@@ -16,7 +16,7 @@ use table_fixtures::Change;
 pub type Said = Result<(usize, u128), AuditFault>;
 
 pub(crate) fn told(audited: Result<Audited, AuditFault>) -> Said
-    ensures { result ≡ said_of audited }
+    ensures { result ≡ said_by_audit audited }
 {
     match audited {
         Ok(audited) => Ok((audited.sessions, audited.runs)),
@@ -60,7 +60,7 @@ fn audited(alloc: Global, chain: &[Change], files: &[&[u8]]) -> Option<Said>
 
 /// Whether an audit accepts the chain's files, and one that is made once more where the first was refused memory.
 fn is_audited(alloc: Global, chain: &[Change], files: &[&[u8]]) -> bool
-    ensures { IsTrue result → AreAccepted chain.now (map (λ f. f.now) files.now) }
+    ensures { IsTrue result → AreAcceptedFiles chain.now (map (λ f. f.now) files.now) }
 {
     let Some(wanted) = wanted(chain) else {
         return false;

@@ -4,10 +4,12 @@ use Rattle.std.specs.Prelude.{Contains, MatchOption}
 use Rattle.std.specs.List.{AllByRecursion}
 use Rattle.std.specs.Ordering.{is_eq}
 use Rattle.std.proofs.lemmas.List.{get_or-map, length-map, take_more}
-use Rattle.std.proofs.lemmas.Option.{slice_get-get_or, slice_get_within, get_or_from_slice_get}
+use Rattle.std.proofs.lemmas.Option.{none-some, same_Some, slice_get-get_or, slice_get_within, get_or_from_slice_get}
 use Rattle.item_ids.specs.declared.key.Key.{Key}
 use Rattle.item_ids.specs.Keys.{key_cmp, kind_of}
-use Rattle.sessions.specs.Marks.{is_input, is_input_mark}
+use Rattle.item_ids.specs.Inputs.{is_input}
+use Rattle.item_ids.proofs.Lists.{all_push}
+use Rattle.sessions.specs.Marks.{is_input_mark}
 use Rattle.sessions.specs.Sessions.{RecordValue, SessionValue, IsSession, FitsBehind, Entry, entry_of, entries, entry_at}
 use Rattle.sessions.proofs.EntryRules.{found_at, has_key}
 use Rattle.graph_rules.proofs.NextRules.{all_at}
@@ -47,15 +49,11 @@ all_told P s all q r has = all_at P (entries s) all r (found_at (λ e. is_eq (ke
 
 -- ---- the first item without something
 
-pub all_last : {X : Type 0} (P : X → Type 0) (xs : List X) (x : X) → AllByRecursion P xs → P x → AllByRecursion P (xs ++ x ∷ [])
-all_last P [] x a p = (p, tt)
-all_last P (y ∷ xs) x a p = (a.0, all_last P xs x a.1 p)
-
 -- one more item that has it
 pub one_more : {X : Type 0} (P : X → Type 0) (xs : List X) (i : ℕ) (x : X) → slice_get xs i ≡ Some x → AllByRecursion P (take i xs) → P x → AllByRecursion P (take (i + 1) xs)
 one_more P xs i x is a p =
     let lt = slice_get_within xs i x is in
-    subst (AllByRecursion P) (sym (take_more xs i x lt)) (all_last P (take i xs) (get_or xs i x) a (subst P (sym (get_or_from_slice_get xs i x x is)) p))
+    subst (AllByRecursion P) (sym (take_more xs i x lt)) (all_push P (take i xs) (get_or xs i x) a (subst P (sym (get_or_from_slice_get xs i x x is)) p))
 
 -- what is had by just the same items
 module _ {X : Type 0} (P Q : X → Type 0) (alike : (x : X) → P x ↔ Q x) where
@@ -82,6 +80,9 @@ entry_there s i x lt is =
 
 -- ---- items of a list
 
+pub nowhere : {X : Type 0} (x : X) → Contains [] x → ⊥
+nowhere x c = absurd (let b = c.1 in omega arith)
+
 pub contains_first : {X : Type 0} (x : X) (xs : List X) → Contains (x ∷ xs) x
 contains_first x xs = let l : 0 < length (x ∷ xs) = omega arith in (0, l, refl)
 
@@ -94,3 +95,9 @@ cases_at x xs z (suc k) lt is = let l : k < length xs = omega arith in inr (k, l
 
 pub contains_cases : {X : Type 0} (x : X) (xs : List X) (z : X) → Contains (x ∷ xs) z → (x ≡ z) ⊎ Contains xs z
 contains_cases x xs z c = cases_at x xs z c.0 c.1 c.2
+
+-- what stands at a place
+pub contains_there : {X : Type 0} (xs : List X) (i : ℕ) (x : X) → slice_get xs i ≡ Some x → Contains xs x
+contains_there [] i x is = absurd (none-some x is)
+contains_there (y ∷ ys) zero x is = subst (Contains (y ∷ ys)) (same_Some y x is) (contains_first y ys)
+contains_there (y ∷ ys) (suc i) x is = contains_later y ys x (contains_there ys i x is)

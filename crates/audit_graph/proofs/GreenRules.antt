@@ -20,16 +20,9 @@ use Rattle.graph_rules.proofs.SessionRules.{session_graph}
 use Rattle.audit_graph.specs.Firsts.{IsFirstWithout}
 use Rattle.audit_graph.specs.Greens.{GreensStand, HasSameEdges, HasSamePrint, StandsIfGreen, IsLack}
 use Rattle.audit_graph.specs.Steps.{IsFirstLack, setting_behind}
-use Rattle.audit_graph.proofs.Entries.{all_told, entry_there, one_more}
+use Rattle.audit_graph.proofs.Entries.{all_told, entry_there, one_more, contains_there}
 use Rattle.audit_graph.specs.declared.greens.Lack.{Lack}
 use Rattle.audit_graph.specs.declared.greens.Lack.TheVariants.{WithoutPast, AcrossProfiles, OtherEdges, OverRed, OtherPrint}
-
-there : (ks : List Key) (i : ℕ) (k : Key) → slice_get ks i ≡ Some k → Contains ks k
-there [] i k e = absurd (none-some k e)
-there (x ∷ xs) zero k e = let l : 0 < length (x ∷ xs) = omega arith in (0, l, same_Some x k e)
-there (x ∷ xs) (suc i) k e =
-    let h = there xs i k e in
-    let l : suc h.0 < length (x ∷ xs) = let b = h.1 in omega arith in (suc h.0, l, h.2)
 
 -- a key with a lack doesn't stand in the previous session
 pub lacks_something : (over : Setting) (now : Past) (r : Entry) (why : Lack) → IsLack over now r why → StandsIn over now r → ⊥
@@ -38,7 +31,7 @@ lacks_something over now r AcrossProfiles l st = let e : true ≡ false = sym l.
 lacks_something over now r OtherEdges l st =
     let e : l.0 ≡ st.had = same_Some _ _ (sym l.1 ∙ st.past_has) in
     l.2 (ap (λ (x : Entry). x.reads) e ∙ st.edges)
-lacks_something over now r (OverRed i) l st = l.1.lacks (st.same l.1.item (there r.reads i l.1.item l.1.here))
+lacks_something over now r (OverRed i) l st = l.1.lacks (st.same l.1.item (contains_there r.reads i l.1.item l.1.here))
 lacks_something over now r OtherPrint l st =
     l.2 (ap (option_map (λ (x : Entry). print_of x.value)) (kept_held over r.key st.had st.past_has) ∙ ap Some st.print)
 

@@ -5,22 +5,26 @@ use Rattle.std.specs.List.{AllByRecursion}
 use Rattle.std.proofs.lemmas.List.{take_all}
 use Rattle.std.proofs.lemmas.Option.{same_Some}
 use Rattle.item_ids.specs.declared.key.Key.{Key}
-use Rattle.item_ids.specs.declared.key.Key.TheVariants.{Files, Source, Tree, Index, Header, Method, Sig, Supers, Members, CheckClass, CheckBody, Diags, Answer}
+use Rattle.item_ids.specs.declared.key.Key.TheVariants.{Files, Source}
 use Rattle.item_ids.specs.Keys.{kind_of}
 use Rattle.result_bytes.specs.declared.value.Value.{Value}
 use Rattle.fingerprint.specs.Prints.{print_of}
 use Rattle.recorder.specs.Projects.{Project}
-use Rattle.recorder.specs.Backed.{Meaning, ReadLists, ReadValue, RunnerLaws, rank, keys, AreLower, Alike, Gives, GivesEach}
+use Rattle.recorder.specs.Backed.{Meaning, ReadLists, ReadValue, RunnerLaws, keys, Alike, Gives, GivesEach}
 use Rattle.sessions.specs.declared.mark.Mark.TheVariants.{Input, Green, Executed}
-use Rattle.sessions.specs.Marks.{is_input, is_input_mark}
+use Rattle.sessions.specs.Marks.{is_input_mark}
 use Rattle.sessions.specs.Sessions.{Entry}
 use Rattle.graph_rules.specs.Pasts.{Past, IsGraph, print_in}
 use Rattle.graph_rules.specs.Settings.{Setting, kept}
 use Rattle.graph_rules.specs.Next.{AreSources, IsKnownPast, StandsIn}
 use Rattle.graph_rules.proofs.SettingRules.{kept_held}
-use Rattle.graph_rules.proofs.NextRules.{all_at, all_from}
+use Rattle.graph_rules.proofs.NextRules.{all_at}
 use Rattle.audit_graph.specs.Greens.{GreensStand}
 use Rattle.audit_graph.specs.Replays.{IsHeld, FollowsFromEdges, AreReplayed, AreValuesApart, AreWithLower}
+use Rattle.item_ids.specs.Inputs.{Origin, origin, rank, is_input}
+use Rattle.item_ids.specs.Inputs.Origin.{files, source, computed}
+use Rattle.item_ids.specs.KeyLists.{AreLower}
+use Rattle.item_ids.proofs.Lists.{all_from}
 
 -- a list of which one element more is the list itself
 whole : (xs ys : List Key) → take (suc (length xs)) ys ≡ xs → ys ≡ xs
@@ -37,20 +41,14 @@ none_lower : (q : Key) → rank q ≡ 0 → (ks : List Key) → AreLower q ks �
 none_lower q z [] a = refl
 none_lower q z (k ∷ ks) a = absurd (let l = a.0 in omega arith)
 
-above : (q : Key) → false ≡ is_input (kind_of q) → 0 < rank q
-above Files e = absurd (cc)
-above (Source file) e = absurd (cc)
-above (Tree file) e = omega arith
-above Index e = omega arith
-above (Header c) e = omega arith
-above (Method c m) e = omega arith
-above (Sig c m) e = omega arith
-above (Supers c) e = omega arith
-above (Members c) e = omega arith
-above (CheckClass c) e = omega arith
-above (CheckBody c m) e = omega arith
-above (Diags c) e = omega arith
-above Answer e = omega arith
+-- a key that is no input is of a rank above 0
+above_from : (q : Key) → Origin q → false ≡ is_input (kind_of q) → 0 < rank q
+above_from _ files e = absurd (cc)
+above_from _ (source file) e = absurd (cc)
+above_from _ (computed q is) e = is.above
+
+pub above : (q : Key) → false ≡ is_input (kind_of q) → 0 < rank q
+above q e = above_from q (origin q) e
 
 print_some : (past : Past) (e : Key) (x : Entry) → past e ≡ Some x → print_in past e ≡ Some (print_of x.value)
 print_some past e x is = ap (option_map (λ r. print_of r.value)) is
@@ -70,24 +68,14 @@ module _ (mean : Meaning) (reads : ReadLists) (laws : RunnerLaws mean reads) (ov
   no_reads : (q : Key) (r : Entry) → now q ≡ Some r → rank q ≡ 0 → r.reads ≡ reads p q
   no_reads q r has z = none_lower q z r.reads (graph.lower q r has) ∙ sym ((laws.inputs p sources.project).no_reads q z)
 
-  input : (q : Key) (r : Entry) → now q ≡ Some r → true ≡ is_input (kind_of q) → (r.value ≡ mean p q) × (r.reads ≡ reads p q)
-  input Files r has e =
+  input : (q : Key) → Origin q → (r : Entry) → now q ≡ Some r → true ≡ is_input (kind_of q) → (r.value ≡ mean p q) × (r.reads ≡ reads p q)
+  input _ files r has e =
       let x = sources.files in
       (ap (λ (y : Entry). y.value) (same_entry Files r x.0 has x.1) ∙ (x.2 ∙ sym (laws.inputs p sources.project).files), no_reads Files r has refl)
-  input (Source file) r has e =
+  input _ (source file) r has e =
       let x = sources.each file (sources.others file r has) in
       (ap (λ (y : Entry). y.value) (same_entry (Source file) r x.0 has x.1) ∙ (x.2 ∙ sym ((laws.inputs p sources.project).source file)), no_reads (Source file) r has refl)
-  input (Tree file) r has e = absurd (cc)
-  input Index r has e = absurd (cc)
-  input (Header c) r has e = absurd (cc)
-  input (Method c m) r has e = absurd (cc)
-  input (Sig c m) r has e = absurd (cc)
-  input (Supers c) r has e = absurd (cc)
-  input (Members c) r has e = absurd (cc)
-  input (CheckClass c) r has e = absurd (cc)
-  input (CheckBody c m) r has e = absurd (cc)
-  input (Diags c) r has e = absurd (cc)
-  input Answer r has e = absurd (cc)
+  input _ (computed q is) r has e = absurd (let t : true ≡ false = e ∙ is.kind in cc)
 
   -- ---- executed keys
 
@@ -143,7 +131,7 @@ module _ (mean : Meaning) (reads : ReadLists) (laws : RunnerLaws mean reads) (ov
   step : (q : Key) → front q ≡ true → ((e : Key) → rank e < rank q → Meant e) → Meant q
   step q inn ih r has =
       (elim r.mark as (λ m. r.mark ≡ m → (r.value ≡ mean p q) × (r.reads ≡ reads p q)) [
-        | Input ↦ λ is. input q r has (ap is_input_mark (sym is) ∙ marks q r has)
+        | Input ↦ λ is. input q (origin q) r has (ap is_input_mark (sym is) ∙ marks q r has)
         | Executed ↦ λ is. executed q r has ih (replayed q r inn has is)
         | Green ↦ λ is. green q r has (above q (ap is_input_mark (sym is) ∙ marks q r has)) ih (greens q r has is)
       ]) refl

@@ -25,18 +25,7 @@ any_default (x ∷ xs) (suc i) d e lt = any_default xs i d e (omega arith)
 -- a value of the kind of Files is one
 pub is_files : (v : Value) → kind_of_value v ≡ kinds.Files → (names : List (List ℕ)) × (v ≡ values.Files names)
 is_files (values.Files names) e = (names, refl)
-is_files (values.Source x) e = absurd (cc)
-is_files (values.Tree x) e = absurd (cc)
-is_files (values.Index x) e = absurd (cc)
-is_files (values.Header x) e = absurd (cc)
-is_files (values.Method x) e = absurd (cc)
-is_files (values.Sig x) e = absurd (cc)
-is_files (values.Supers x) e = absurd (cc)
-is_files (values.Members x) e = absurd (cc)
-is_files (values.CheckClass x) e = absurd (cc)
-is_files (values.CheckBody x) e = absurd (cc)
-is_files (values.Diags x) e = absurd (cc)
-is_files (values.Answer x) e = absurd (cc)
+is_files v e = absurd (cc)
 
 -- ---- sources that are in a set
 

@@ -3,11 +3,10 @@ use Rattle.std.proofs.Common.{◌≡◌, ℕ, suc, zero, ◌+◌, ◌<◌, inl, 
 use Rattle.std.specs.Prelude.{Contains, if◌then◌else◌, ◌↔◌}
 use Rattle.std.proofs.Math.Seq.{drop-cons}
 use Rattle.std.proofs.lemmas.Option.{none-some, same_Some}
-use Rattle.std.proofs.lemmas.List.Elements.{at_from_Contains}
 use Rattle.sessions.specs.declared.mark.Mark.{Mark}
 use Rattle.sessions.specs.declared.mark.Mark.TheVariants.{Input, Executed, Green}
 use Rattle.sessions.specs.Sessions.{RecordValue, SessionValue}
-use Rattle.audit_graph.proofs.Entries.{contains_cases, contains_first, contains_later}
+use Rattle.audit_graph.proofs.Entries.{nowhere, contains_cases, contains_first, contains_later}
 use Rattle.audit_graph.specs.Plans.{is_executed, executed_from, executed_in}
 
 -- ---- a loop that collects them
@@ -30,9 +29,6 @@ passes rs done i r lt is mark =
     ∙ ap (λ b. done ++ (if b then i ∷ executed_from (i + 1) (drop (i + 1) rs) else executed_from (i + 1) (drop (i + 1) rs))) mark
 
 -- ---- what they tell
-
-nowhere : (n : ℕ) → Contains [] n → ⊥
-nowhere n h = let a = at_from_Contains [] n h in absurd (omega (arith, a.1))
 
 -- the record so many places behind the first, whose index is i
 abbrev IsExecutedBehind : ℕ → List RecordValue → ℕ → Type 0

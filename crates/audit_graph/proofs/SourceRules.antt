@@ -4,14 +4,14 @@ use Rattle.std.specs.Prelude.{Contains}
 use Rattle.std.specs.List.{AllByRecursion}
 use Rattle.std.proofs.lemmas.Option.{none-some, same_Some}
 use Rattle.std.proofs.lemmas.List.{length-map}
-use Rattle.std.proofs.lemmas.List.Elements.{at_from_Contains, All-from_recursion}
+use Rattle.std.proofs.lemmas.List.Elements.{All-from_recursion}
 use Rattle.std.proofs.lemmas.Slice.Eq.{bytes_eq-Decides}
 use Rattle.byte_readers.specs.Names.{IsName}
 use Rattle.item_ids.specs.declared.key.Key.TheVariants.{Source}
 use Rattle.item_ids.specs.Keys.{kind_of}
 use Rattle.result_bytes.specs.declared.value.Value.{Value}
 use Rattle.result_bytes.specs.declared.value.Value.TheVariants as values
-use Rattle.result_bytes.specs.Storable.{AreDistinct, FileNamesFit}
+use Rattle.result_bytes.specs.Storable.{AreDistinctNames, FileNamesFit}
 use Rattle.mj_project.specs.Projects.{SourceFile, names_of, IsFileName, IsProject}
 use Rattle.mj_project.proofs.Listed.{place_of}
 use Rattle.recorder.specs.Projects.{Project, bytes_at}
@@ -21,10 +21,7 @@ use Rattle.graph_rules.specs.Next.{AreSources}
 use Rattle.graph_rules.proofs.NextRules.{all_at}
 use Rattle.graph_rules.proofs.SessionRules.{session_graph}
 use Rattle.audit_graph.specs.Sources.{HasFiles, HasBytes, HasSources, IsNoStray, source_keys}
-use Rattle.audit_graph.proofs.Entries.{all_told, contains_cases, contains_first, contains_later}
-
-nowhere : {X : Type 0} (x : X) → Contains [] x → ⊥
-nowhere x h = let a = at_from_Contains [] x h in absurd (omega (arith, a.1))
+use Rattle.audit_graph.proofs.Entries.{all_told, nowhere, contains_cases, contains_first, contains_later, contains_there}
 
 -- ---- the project that is held
 
@@ -59,18 +56,13 @@ bytes_there now (n ∷ ns) file c =
 
 -- ---- names that differ
 
-not_before : (names : List (List ℕ)) → AreDistinct names → (k : ℕ) (name : List ℕ) → slice_get names k ≡ Some name → Contains (take k names) name → ⊥
+not_before : (names : List (List ℕ)) → AreDistinctNames names → (k : ℕ) (name : List ℕ) → slice_get names k ≡ Some name → Contains (take k names) name → ⊥
 not_before [] d k name is c = none-some name is
 not_before (n ∷ ns) d zero name is c = nowhere name c
 not_before (n ∷ ns) d (suc k) name is c = elim (contains_cases n (take k ns) name c) [
-  | inl same ↦ d.0 (subst (Contains ns) (sym same) (there ns k name is))
+  | inl same ↦ d.0 (subst (Contains ns) (sym same) (contains_there ns k name is))
   | inr later ↦ not_before ns d.1 k name is later
 ]
-  where
-    there : (ms : List (List ℕ)) (i : ℕ) (m : List ℕ) → slice_get ms i ≡ Some m → Contains ms m
-    there [] i m e = absurd (none-some m e)
-    there (x ∷ xs) zero m e = subst (Contains (x ∷ xs)) (same_Some x m e) (contains_first x xs)
-    there (x ∷ xs) (suc i) m e = contains_later x xs m (there xs i m e)
 
 good_names : (names : List (List ℕ)) → AllByRecursion IsName names → AllByRecursion IsFileName names
 good_names [] a = tt
@@ -85,7 +77,7 @@ is_project now names fit = record {
 
 -- ---- sources of names
 
-source_there : (names : List (List ℕ)) (file : List ℕ) → Contains names file → Contains (source_keys names) (Source file)
+pub source_there : (names : List (List ℕ)) (file : List ℕ) → Contains names file → Contains (source_keys names) (Source file)
 source_there [] file c = absurd (nowhere file c)
 source_there (n ∷ ns) file c = elim (contains_cases n ns file c) [
   | inl same ↦ subst (λ (m : List ℕ). Contains (source_keys (n ∷ ns)) (Source m)) same (contains_first (Source n) (source_keys ns))
@@ -138,12 +130,19 @@ module _ (s : SessionValue) (session : IsSession s) (names : List (List ℕ)) (f
 
 -- ---- one project
 
+-- a session holds one list of names
+pub one_names : (now : Past) (a b : List (List ℕ)) → HasFiles now a → HasFiles now b → a ≡ b
+one_names now a b x y =
+    let e : x.entry ≡ y.entry = same_Some _ _ (sym x.has ∙ y.has) in
+    let v : values.Files a ≡ values.Files b = sym x.value ∙ (ap (λ (r : Entry). r.value) e ∙ y.value) in
+    cc
+
+pub names_held : (now : Past) (p : Project) → AreSources now p → HasFiles now (names_of p)
+names_held now p s = record { entry = s.files.0; has = s.files.1; value = s.files.2 }
+
 module _ (now : Past) (p r : Project) (a : AreSources now p) (b : AreSources now r) where
   same_names : names_of p ≡ names_of r
-  same_names =
-      let e : a.files.0 ≡ b.files.0 = same_Some _ _ (sym a.files.1 ∙ b.files.1) in
-      let v : values.Files (names_of p) ≡ values.Files (names_of r) = sym a.files.2 ∙ (ap (λ (x : Entry). x.value) e ∙ b.files.2) in
-      cc
+  same_names = one_names now (names_of p) (names_of r) (names_held now p a) (names_held now r b)
 
   same_bytes : (file : List ℕ) → Contains (names_of p) file → bytes_at p file ≡ bytes_at r file
   same_bytes file c =
@@ -153,17 +152,17 @@ module _ (now : Past) (p r : Project) (a : AreSources now p) (b : AreSources now
       let v : values.Source (bytes_at p file) ≡ values.Source (bytes_at r file) = sym x.2 ∙ (ap (λ (z : Entry). z.value) e ∙ y.2) in
       cc
 
-distinct_from : (names : List (List ℕ)) → ((k : ℕ) (name : List ℕ) → slice_get names k ≡ Some name → Contains (take k names) name → ⊥) → AreDistinct names
+pub distinct_from : (names : List (List ℕ)) → ((k : ℕ) (name : List ℕ) → slice_get names k ≡ Some name → Contains (take k names) name → ⊥) → AreDistinctNames names
 distinct_from [] h = tt
 distinct_from (n ∷ ns) h = (
   (λ has. let at = place_of ns n has in h (suc at.0) n at.1 (contains_first n (take at.0 ns))),
   distinct_from ns (λ k name e c. h (suc k) name e (contains_later n (take k ns) name c)),
 )
 
-bytes_first : (f : SourceFile) (fs : Project) → bytes_at (f ∷ fs) f.name ≡ Some f.bytes
+pub bytes_first : (f : SourceFile) (fs : Project) → bytes_at (f ∷ fs) f.name ≡ Some f.bytes
 bytes_first f fs = ap (λ b. option_map (λ (g : SourceFile). g.bytes) (cond b (Some f) (find (λ (g : SourceFile). bytes_eq g.name f.name) fs))) ((bytes_eq-Decides f.name f.name).1 refl)
 
-bytes_later : (f : SourceFile) (fs : Project) (file : List ℕ) → (f.name ≡ file → ⊥) → bytes_at (f ∷ fs) file ≡ bytes_at fs file
+pub bytes_later : (f : SourceFile) (fs : Project) (file : List ℕ) → (f.name ≡ file → ⊥) → bytes_at (f ∷ fs) file ≡ bytes_at fs file
 bytes_later f fs file other =
     (elim (bytes_eq f.name file) as (λ b. bytes_eq f.name file ≡ b → option_map (λ (g : SourceFile). g.bytes) (cond b (Some f) (find (λ (g : SourceFile). bytes_eq g.name file) fs)) ≡ bytes_at fs file) [
       | true ↦ λ same. absurd (other ((bytes_eq-Decides f.name file).0 same))
@@ -176,7 +175,7 @@ made n b = record { name = n; bytes = b }
 same_file : (f g : SourceFile) → f.name ≡ g.name → f.bytes ≡ g.bytes → f ≡ g
 same_file f g a b = ap (λ (n : List ℕ). made n f.bytes) a ∙ ap (λ (x : List ℕ). made g.name x) b
 
-same_files : (p r : Project) → names_of p ≡ names_of r → AreDistinct (names_of p) → ((file : List ℕ) → Contains (names_of p) file → bytes_at p file ≡ bytes_at r file) → p ≡ r
+same_files : (p r : Project) → names_of p ≡ names_of r → AreDistinctNames (names_of p) → ((file : List ℕ) → Contains (names_of p) file → bytes_at p file ≡ bytes_at r file) → p ≡ r
 same_files [] [] names d bytes = refl
 same_files [] (g ∷ gs) names d bytes = absurd (cc)
 same_files (f ∷ fs) [] names d bytes = absurd (cc)

@@ -50,7 +50,7 @@ step_is_right queries laws past k s old graph old_project meant session step apa
 
 -- ---- keys before a key
 
-less_from : (o : Ordering) → is_lt o ≡ true → o ≡ Less
+pub less_from : (o : Ordering) → is_lt o ≡ true → o ≡ Less
 less_from Less e = refl
 less_from Equal e = absurd (cc)
 less_from Greater e = absurd (cc)

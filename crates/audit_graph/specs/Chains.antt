@@ -16,5 +16,5 @@ AreLinked past k (s ∷ ss) =
     IsLinked past k s × IsTakenFrom past s × AreLinked (Some s) (k + 1) ss
 
 -- a chain of sessions begins with number 0, behind no session
-abbrev pub IsChain : List SessionValue → Type 0
-IsChain sessions = AreLinked None 0 sessions
+abbrev pub IsSessionChain : List SessionValue → Type 0
+IsSessionChain sessions = AreLinked None 0 sessions

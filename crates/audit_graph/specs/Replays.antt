@@ -4,8 +4,9 @@ use Rattle.std.specs.List.{AllByRecursion}
 use Rattle.std.specs.Ordering.{is_lt}
 use Rattle.item_ids.specs.declared.key.Key.{Key}
 use Rattle.item_ids.specs.Keys.{key_cmp}
+use Rattle.item_ids.specs.Inputs.{rank}
 use Rattle.fingerprint.specs.Prints.{print_of}
-use Rattle.recorder.specs.Backed.{Meaning, ReadLists, ReadValue, rank, keys, Backed}
+use Rattle.recorder.specs.Backed.{Meaning, ReadLists, ReadValue, keys, Backed}
 use Rattle.sessions.specs.declared.mark.Mark.TheVariants.{Executed}
 use Rattle.sessions.specs.Sessions.{Entry}
 use Rattle.graph_rules.specs.Pasts.{Past}

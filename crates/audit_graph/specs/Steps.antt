@@ -33,7 +33,7 @@ pub record IsSessionStep (by_profile : Kind → Bool) (past : Option SessionValu
 -- ---- refusals, each where those before it don't hold
 
 -- the source of file f is the first that has no bytes
-pub record IsMissing (s : SessionValue) (f : ℕ) : Type 0 where
+pub record IsMissingSource (s : SessionValue) (f : ℕ) : Type 0 where
   pub names : List (List ℕ)
   pub files : HasFiles (entry_at s) names
   pub first : IsFirstWithout (HasBytes (entry_at s)) (source_keys names) f
@@ -49,7 +49,7 @@ pub record IsStray (s : SessionValue) (n : ℕ) : Type 0 where
 abbrev pub SourcesGive : SessionValue → Result (Unit {0}) SourceFault → Type 0
 SourcesGive s (Ok _) = HasSources (entry_at s)
 SourcesGive s (Err sources.NoFiles) = entry_at s Files ≡ None
-SourcesGive s (Err (sources.Missing f)) = IsMissing s f
+SourcesGive s (Err (sources.Missing f)) = IsMissingSource s f
 SourcesGive s (Err (sources.Stray n)) = IsStray s n
 SourcesGive s (Err sources.OutOfMemory) = (names : List (List ℕ)) × HasFiles (entry_at s) names
 
@@ -75,7 +75,7 @@ CheckStepGives by past k s (Ok plan) = IsSessionStep by past k s × (plan ≡ ex
 CheckStepGives by past k s (Err (BrokenLink j)) = (j ≡ k) × ¬ IsLinked past k s
 CheckStepGives by past k s (Err (NoFiles j)) =
     (j ≡ k) × IsLinked past k s × (entry_at s Files ≡ None)
-CheckStepGives by past k s (Err (MissingSource j f)) = (j ≡ k) × IsLinked past k s × IsMissing s f
+CheckStepGives by past k s (Err (MissingSource j f)) = (j ≡ k) × IsLinked past k s × IsMissingSource s f
 CheckStepGives by past k s (Err (StraySource j n)) = (j ≡ k) × IsLinked past k s × IsStray s n
 CheckStepGives by past k s (Err (GreenWithoutPast j n)) =
     (j ≡ k) × RefusesGreen by past k s n lacks.WithoutPast

@@ -16,4 +16,5 @@ pub use laws::{
 };
 pub use past::Past;
 pub use plan::Plan;
+pub use sources::file_names;
 pub use step::check_step;

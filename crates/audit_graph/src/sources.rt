@@ -56,7 +56,7 @@ pub(crate) fn check_sources(alloc: Global, session: &Session) -> Result<(), Sour
 }
 
 /// The names of the files that the session holds.
-fn file_names(session: &Session) -> Option<&[Name]>
+pub fn file_names(session: &Session) -> Option<&[Name]>
     ensures held { MatchOption result (entry_at session.now keys.Files ≡ None)
         (λ names. HasFiles (entry_at session.now) names.now) }
     ensures fit { IfSome result (λ names. FileNamesFit names.now) }

@@ -4,8 +4,8 @@ use Rattle.std.specs.Prelude.{Option}
 use Rattle.std.specs.List.{AllByRecursion}
 use Rattle.std.proofs.lemmas.List.{map-append}
 use Rattle.item_ids.specs.declared.key.Key.{Key}
+use Rattle.item_ids.proofs.Lists.{all_push}
 use Rattle.recorder.specs.Backed.{Queries}
-use Rattle.recorder.proofs.Recorded.{all_last}
 use Rattle.sessions.specs.Sessions.{SessionValue, IsSession}
 use Rattle.sessions.specs.Spelling.{file_of}
 use Rattle.graph_rules.specs.Pasts.{Past}
@@ -44,7 +44,7 @@ module _ (queries : Queries) (files : List (List ℕ)) (old new : List Key) wher
   within_log past front file rest spelled each s w = record {
     sessions = front ++ s ∷ [];
     rest = rest;
-    each = all_last IsSession front s each w.session;
+    each = all_push IsSession front s each w.session;
     spelled = ap (λ (fs : List (List ℕ)). fs ++ rest) (map-append file_of front (s ∷ []))
         ∙ (append_assoc (map file_of front) (file_of s ∷ []) rest
         ∙ (ap (λ (f : List ℕ). map file_of front ++ f ∷ rest) w.spelled ∙ spelled));

@@ -6,13 +6,14 @@ use Rattle.std.proofs.lemmas.List.{length-map, take_all, take-map}
 use Rattle.std.proofs.lemmas.Option.{slice_get_within, none-some, same_Some}
 use Rattle.profiles.specs.declared.profile.Profile.{Profile}
 use Rattle.item_ids.specs.declared.key.Key.{Key}
+use Rattle.item_ids.proofs.Lists.{all_map}
 use Rattle.result_bytes.specs.declared.value.Value.{Value}
 use Rattle.recorder.specs.Backed.{Meaning, ReadLists, Queries, ReadValue, keys, Asked, IsNext, Backed, BeginsWith}
 use Rattle.recorder.specs.Runs.{OutcomeValue, IsOutcome}
 use Rattle.recorder.specs.Recording.{IsUnread, IsForMemory, IsByReader}
 use Rattle.recorder.specs.declared.reader.ReadFault.TheVariants.{OutOfMemory, NotHeld}
 use Rattle.recorder.specs.declared.refused.Refused.{Refused}
-use Rattle.recorder.proofs.Recorded.{all_at, all_map}
+use Rattle.recorder.proofs.Recorded.{all_at}
 use Rattle.sessions.specs.Sessions.{Entry, RecordValue}
 use Rattle.graph_rules.specs.Pasts.{Past}
 use Rattle.audit_graph.specs.Greens.{keys_at}

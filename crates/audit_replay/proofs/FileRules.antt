@@ -5,8 +5,8 @@ use Rattle.std.specs.Borrow.{Bor}
 use Rattle.std.proofs.lemmas.Option.{none-some}
 use Rattle.std.proofs.lemmas.List.{map-append, length-map, take-append-drop}
 use Rattle.item_ids.specs.declared.key.Key.{Key}
+use Rattle.item_ids.proofs.Lists.{all_push}
 use Rattle.recorder.specs.Backed.{Queries}
-use Rattle.recorder.proofs.Recorded.{all_last}
 use Rattle.sessions.specs.Sessions.{RecordValue, SessionValue, IsSession, AreTaken, key_at}
 use Rattle.sessions.specs.Spelling.{file_of}
 use Rattle.audit_graph.specs.Chains.{AreLinked}
@@ -58,7 +58,7 @@ module _ (queries : Queries) where
       → ArePassedFiles queries (front ++ file ∷ []) old new (ss ++ s ∷ []) (length (all_executed_keys (ss ++ s ∷ [])))
   file_passed front file old now new ss so_far s session spelled passes log = record {
     spelled = map-append file_of ss (s ∷ []) ∙ (ap (λ (fs : List (List ℕ)). fs ++ file_of s ∷ []) so_far.spelled ∙ ap (λ (f : List ℕ). front ++ f ∷ []) (sym spelled));
-    each = all_last IsSession ss s so_far.each session;
+    each = all_push IsSession ss s so_far.each session;
     passed = passed_more None 0 ss s so_far.passed (length ss) (omega arith) passes;
     log = log ∙ (ap (λ (ks : List Key). ks ++ executed_keys s) so_far.log
         ∙ (append_assoc old (all_executed_keys ss) (executed_keys s) ∙ ap (λ (ks : List Key). old ++ ks) (sym (executed_more ss s))));

@@ -1,12 +1,12 @@
 -- The inputs of a session that holds the files of a project, beside another project.
-use Rattle.std.proofs.Common.{◌≡◌, ℕ, suc, zero, ◌<◌, ◌+◌, true, false, cond, find, List, [], ◌∷◌, ◌++◌, map, take, length, get_or, Option, Some, option_map, inl, inr, refl, sym, ap, ◌∙◌, subst, arith}
+use Rattle.std.proofs.Common.{◌≡◌, ℕ, suc, zero, ◌<◌, ◌+◌, true, false, cond, find, List, [], ◌∷◌, ◌++◌, map, take, length, get_or, Option, Some, None, Bool, IsTrue, option_map, inl, inr, refl, sym, ap, ◌∙◌, subst, arith}
 use Rattle.std.specs.Prelude.{Contains, bytes_eq, string_bytes, String, Vec, ◌↔◌}
 use Rattle.std.specs.Arc.{arc_value}
 use Rattle.std.specs.List.{AllByRecursion}
 use Rattle.std.specs.declared.sync.Arc.{Arc}
 use Rattle.std.specs.declared.alloc.Global.{Global}
 use Rattle.std.proofs.lemmas.List.{length-map, get_or-map}
-use Rattle.std.proofs.lemmas.Option.{same_Some}
+use Rattle.std.proofs.lemmas.Option.{none-some, same_Some}
 use Rattle.std.proofs.lemmas.Slice.Eq.{bytes_eq-Decides}
 use Rattle.item_ids.specs.declared.key.Key.{Key}
 use Rattle.item_ids.specs.declared.key.Key.TheVariants.{Files, Source}
@@ -17,12 +17,13 @@ use Rattle.recorder.specs.Projects.{Project, bytes_at}
 use Rattle.sessions.specs.Sessions.{Entry}
 use Rattle.graph_rules.specs.Pasts.{Past}
 use Rattle.graph_rules.specs.Next.{AreSources}
-use Rattle.audit_graph.proofs.Entries.{contains_cases, contains_first, contains_later}
-use Rattle.audit_graph.specs.Sources.{HasBytes, HasSources, source_keys}
+use Rattle.audit_graph.proofs.Entries.{nowhere, contains_cases, contains_first, contains_later}
+use Rattle.audit_graph.proofs.SourceRules.{one_names, names_held}
+use Rattle.audit_graph.specs.Sources.{HasFiles, HasBytes, HasSources, source_keys}
 use Rattle.audit_replay.specs.Audits.{HasValue}
-use Rattle.audit_replay.specs.Projects.{AreFilesOf, IsFileAlike, AreFilesAlike, IsInputsOf}
-use Rattle.audit_replay.specs.Sums.{AreTexts, AreInputs}
-use Rattle.audit_replay.proofs.AgainstRules.{nowhere, same_names, are_sources, are_files}
+use Rattle.audit_replay.specs.Projects.{HoldsFiles, IsFileAlike, AreFilesAlike, HasFilesAlike}
+use Rattle.audit_replay.specs.Sums.{AreTexts, AreTextsIn}
+use Rattle.audit_replay.proofs.AgainstRules.{same_names, are_sources, are_files}
 
 -- ---- a walk over names and files
 
@@ -99,7 +100,7 @@ module _ (names : List (List ℕ)) (texts : List (Arc Value Global)) (files : Li
 value_once : (now : Past) (q : Key) (v w : Value) → HasValue now q v → HasValue now q w → v ≡ w
 value_once now q v w a b = sym a.value ∙ (ap (λ (e : Entry). e.value) (same_Some _ _ (sym a.has ∙ b.has)) ∙ b.value)
 
-held_alike : (now : Past) (names : List (List ℕ)) (texts : List Value) (fs : List SourceFile) → AreTexts now names texts → AreFilesAlike names texts fs → AreFilesOf now names fs
+held_alike : (now : Past) (names : List (List ℕ)) (texts : List Value) (fs : List SourceFile) → AreTexts now names texts → AreFilesAlike names texts fs → HoldsFiles now names fs
 held_alike now [] [] [] e a = tt
 held_alike now [] [] (f ∷ fs) e a = absurd a
 held_alike now [] (t ∷ ts) fs e a = absurd e
@@ -108,7 +109,7 @@ held_alike now (n ∷ ns) (t ∷ ts) [] e a = absurd a
 held_alike now (n ∷ ns) (t ∷ ts) (f ∷ fs) e a =
     (record { called = a.0.called; held = subst (HasValue now (Source n)) a.0.told e.0 }, held_alike now ns ts fs e.1 a.1)
 
-alike_held : (now : Past) (names : List (List ℕ)) (texts : List Value) (fs : List SourceFile) → AreTexts now names texts → AreFilesOf now names fs → AreFilesAlike names texts fs
+alike_held : (now : Past) (names : List (List ℕ)) (texts : List Value) (fs : List SourceFile) → AreTexts now names texts → HoldsFiles now names fs → AreFilesAlike names texts fs
 alike_held now [] [] [] e a = tt
 alike_held now [] [] (f ∷ fs) e a = absurd a
 alike_held now [] (t ∷ ts) fs e a = absurd e
@@ -117,18 +118,33 @@ alike_held now (n ∷ ns) (t ∷ ts) [] e a = absurd a
 alike_held now (n ∷ ns) (t ∷ ts) (f ∷ fs) e a =
     (record { called = a.0.called; told = value_once now (Source n) t (values.Source (Some f.bytes)) e.0 a.0.held }, alike_held now ns ts fs e.1 a.1)
 
-pub inputs_alike : (now : Past) (names : Value) (texts : List Value) → AreInputs now names texts → HasSources now → (p : Project) → IsProject p → IsInputsOf names texts p ↔ AreSources now p
-inputs_alike now names texts x old p is = (
-  (λ h.
-      let same : x.files ≡ h.files = (let e : values.Files x.files ≡ values.Files h.files = sym x.named ∙ h.named in cc) in
-      are_sources now x.held.entry x.files x.held.has (x.held.value ∙ x.named) old.0 p old.1 is
-      (held_alike now x.files texts p x.each (subst (λ (ns : List (List ℕ)). AreFilesAlike ns texts p) (sym same) h.alike))),
-  (λ s. record {
-    files = x.files;
-    named = x.named;
-    alike = alike_held now x.files texts p x.each (are_files now x.held.entry x.files x.held.has (x.held.value ∙ x.named) p s);
-  }),
+pub texts_alike : (now : Past) (texts : List Value) → AreTextsIn now texts → HasSources now → (p : Project) → IsProject p → HasFilesAlike now texts p ↔ AreSources now p
+texts_alike now texts held old p is = (
+  (λ h. are_sources now h.names h.held old.0 p old.1 is (held_alike now h.names texts p (held h.names h.held) h.alike)),
+  (λ s.
+      let names = names_held now p s in
+      record {
+        names = names_of p;
+        held = names;
+        alike = alike_held now (names_of p) texts p (held (names_of p) names) (are_files now (names_of p) names p s);
+      }),
 )
+
+-- ---- by the names that a session holds
+
+module _ (now : Past) (names : List (List ℕ)) (held : HasFiles now names) (texts : List Value) where
+  pub all_texts : AreTexts now names texts → AreTextsIn now texts
+  all_texts a files h = subst (λ (ns : List (List ℕ)). AreTexts now ns texts) (one_names now names files held h) a
+
+  pub files_alike : (p : Project) (b : Bool) → IsTrue b ↔ AreFilesAlike names texts p → IsTrue b ↔ HasFilesAlike now texts p
+  files_alike p b h = (
+    (λ yes_. record { names = names; held = held; alike = h.0 yes_ }),
+    (λ x. h.1 (subst (λ (ns : List (List ℕ)). AreFilesAlike ns texts p) (one_names now x.names names x.held held) x.alike)),
+  )
+
+-- without names there is no file
+pub no_names : (now : Past) (names : List (List ℕ)) → now Files ≡ None → HasFiles now names → ⊥
+no_names now names none h = none-some h.entry (sym none ∙ h.has)
 
 -- ---- the inputs of a session that holds the files of a project
 
@@ -148,9 +164,9 @@ bytes_each now [] h = tt
 bytes_each now (n ∷ ns) h = (h n (contains_first n ns), bytes_each now ns (λ file c. h file (contains_later n ns file c)))
 
 -- each of the names has its bytes
-pub named_bytes : (now : Past) (r : Entry) (names : List (List ℕ)) → now Files ≡ Some r → r.value ≡ values.Files names → HasSources now → AllByRecursion (HasBytes now) (source_keys names)
-named_bytes now r names has value old =
-    let same = same_names now r names has value old.0 old.1 in
+pub named_bytes : (now : Past) (names : List (List ℕ)) → HasFiles now names → HasSources now → AllByRecursion (HasBytes now) (source_keys names)
+named_bytes now names held old =
+    let same = same_names now names held old.0 old.1 in
     bytes_each now names (λ file c.
     let inside = subst (λ (ns : List (List ℕ)). Contains ns file) same c in
     let x = old.1.each file inside in

@@ -1,10 +1,8 @@
 -- Lists that are read from the front.
-use Rattle.std.proofs.Common.{◌≡◌, ℕ, suc, zero, ◌+◌, ◌<◌, List, [], ◌∷◌, ◌++◌, map, take, length, get_or, slice_get, Some, sym, ap, ◌∙◌, subst, arith}
-use Rattle.std.specs.Prelude.{Contains}
+use Rattle.std.proofs.Common.{◌≡◌, ℕ, suc, zero, ◌+◌, ◌<◌, List, [], ◌∷◌, ◌++◌, map, take, length, get_or, slice_get, Some, sym, ap, ◌∙◌, arith}
 use Rattle.std.specs.List.{AllByRecursion}
 use Rattle.std.proofs.lemmas.List.{take_more, get_or-map, length-map}
-use Rattle.std.proofs.lemmas.Option.{slice_get-get_or, slice_get_within, get_or_from_slice_get, none-some, same_Some}
-use Rattle.audit_graph.proofs.Entries.{contains_first, contains_later}
+use Rattle.std.proofs.lemmas.Option.{slice_get-get_or, slice_get_within, get_or_from_slice_get}
 
 -- what stands at a place, after a map
 pub there_map : {X Y : Type 0} (f : X → Y) (xs : List X) (i : ℕ) (x : X) → i < length xs → x ≡ get_or xs i x → slice_get (map f xs) i ≡ Some (f x)
@@ -22,24 +20,7 @@ take_there xs i x is =
     let lt = slice_get_within xs i x is in
     take_more xs i x lt ∙ ap (λ y. take i xs ++ y ∷ []) (get_or_from_slice_get xs i x x is)
 
-pub contains_there : {X : Type 0} (xs : List X) (i : ℕ) (x : X) → slice_get xs i ≡ Some x → Contains xs x
-contains_there [] i x is = absurd (none-some x is)
-contains_there (y ∷ ys) zero x is = subst (Contains (y ∷ ys)) (same_Some y x is) (contains_first y ys)
-contains_there (y ∷ ys) (suc i) x is = contains_later y ys x (contains_there ys i x is)
-
 pub all_take : {X : Type 0} (P : X → Type 0) (i : ℕ) (xs : List X) → AllByRecursion P xs → AllByRecursion P (take i xs)
 all_take P zero xs a = tt
 all_take P (suc i) [] a = tt
 all_take P (suc i) (x ∷ xs) a = (a.0, all_take P i xs a.1)
-
--- one more item that has it
-pub all_more : {X : Type 0} (P : X → Type 0) (xs : List X) (i : ℕ) (x : X) → slice_get xs i ≡ Some x → AllByRecursion P (take i xs) → P x → AllByRecursion P (take (i + 1) xs)
-all_more P xs i x is a p = subst (AllByRecursion P) (sym (take_there xs i x is)) (all_last P (take i xs) x a p)
-  where
-    all_last : {X : Type 0} (P : X → Type 0) (xs : List X) (x : X) → AllByRecursion P xs → P x → AllByRecursion P (xs ++ x ∷ [])
-    all_last P [] x a p = (p, tt)
-    all_last P (y ∷ xs) x a p = (a.0, all_last P xs x a.1 p)
-
--- what stands at a place, by what stands past the end
-pub there_default : {X : Type 0} (xs : List X) (i : ℕ) (d : X) → i < length xs → slice_get xs i ≡ Some (get_or xs i d)
-there_default xs i d lt = slice_get-get_or xs i d lt

@@ -5,7 +5,6 @@ use Rattle.std.specs.List.{AllByRecursion}
 use Rattle.std.proofs.lemmas.Option.{none-some, same_Some}
 use Rattle.item_ids.specs.declared.key.Key.TheVariants.{Files}
 use Rattle.item_ids.specs.Keys.{kind_of}
-use Rattle.result_bytes.specs.declared.value.Value.TheVariants as values
 use Rattle.recorder.specs.Backed.{Queries}
 use Rattle.sessions.specs.Sessions.{SessionValue, IsSession, Entry, entries, entry_at}
 use Rattle.graph_rules.specs.Pasts.{Past}
@@ -16,15 +15,16 @@ use Rattle.audit_graph.specs.Firsts.{IsFirstWithout}
 use Rattle.audit_graph.specs.Chains.{IsLinked}
 use Rattle.audit_graph.specs.Sources.{HasFiles, HasBytes, HasSources, IsNoStray, source_keys}
 use Rattle.audit_graph.specs.Greens.{HasSamePrint, HasSameEdges, IsLack, StandsIfGreen}
-use Rattle.audit_graph.specs.Steps.{IsSessionStep, IsMissing, IsStray, RefusesGreen, CheckStepGives, green_fault, setting_behind}
+use Rattle.audit_graph.specs.Steps.{IsSessionStep, IsMissingSource, IsStray, RefusesGreen, CheckStepGives, green_fault, setting_behind}
 use Rattle.audit_graph.specs.declared.greens.Lack.{Lack}
+use Rattle.audit_graph.proofs.Entries.{contains_there}
+use Rattle.audit_graph.proofs.SourceRules.{one_names}
 use Rattle.audit_graph.specs.declared.greens.Lack.TheVariants as lacks
 use Rattle.audit_graph.specs.declared.fault.AuditFault.{AuditFault}
 use Rattle.audit_graph.specs.declared.fault.AuditFault.TheVariants as faults
 use Rattle.audit_replay.specs.Passes.{Passes, SessionRefuses}
 use Rattle.audit_replay.specs.Refusals.{IsToldByFiles}
 use Rattle.audit_replay.specs.Reruns.{RefusesPlan}
-use Rattle.audit_replay.proofs.Lists.{contains_there}
 use Rattle.audit_replay.proofs.SourceFaults.{told_of_entry, not_missing, not_stray}
 
 -- ---- the first item without something is one
@@ -101,7 +101,7 @@ module _ (queries : Queries) (past : Option SessionValue) (k : ℕ) (s : Session
   abbrev pub Holds : Reason → Type 0
   Holds link = ¬ IsLinked past k s
   Holds files = IsLinked past k s × (entry_at s Files ≡ None)
-  Holds (missing f) = IsLinked past k s × IsMissing s f
+  Holds (missing f) = IsLinked past k s × IsMissingSource s f
   Holds (stray n) = IsLinked past k s × IsStray s n
   Holds (green n why) = RefusesGreen queries.by_profile past k s n why
 
@@ -119,8 +119,6 @@ module _ (queries : Queries) (past : Option SessionValue) (k : ℕ) (s : Session
     pub is : fault ≡ fault_of_reason reason
 
   reason_of : (fault : AuditFault) → IsToldByFiles fault → CheckStepGives queries.by_profile past k s (Err fault) → HasReason fault
-  reason_of faults.EmptyChain t g = absurd g
-  reason_of (faults.File j f) t g = absurd g
   reason_of (faults.BrokenLink j) t g = record { reason = link; holds = g.1; is = ap faults.BrokenLink g.0 }
   reason_of (faults.NoFiles j) t g = record { reason = files; holds = (g.1, g.2); is = ap faults.NoFiles g.0 }
   reason_of (faults.MissingSource j f) t g = record { reason = missing f; holds = (g.1, g.2); is = ap (λ (m : ℕ). faults.MissingSource m f) g.0 }
@@ -130,12 +128,8 @@ module _ (queries : Queries) (past : Option SessionValue) (k : ℕ) (s : Session
   reason_of (faults.OtherEdges j n) t g = record { reason = green n lacks.OtherEdges; holds = g.1; is = ap (λ (m : ℕ). faults.OtherEdges m n) g.0 }
   reason_of (faults.GreenOverRed j n i) t g = record { reason = green n (lacks.OverRed i); holds = g.1; is = ap (λ (m : ℕ). faults.GreenOverRed m n i) g.0 }
   reason_of (faults.GreenPrint j n) t g = record { reason = green n lacks.OtherPrint; holds = g.1; is = ap (λ (m : ℕ). faults.GreenPrint m n) g.0 }
-  reason_of (faults.OtherRead j n i) t g = absurd t
-  reason_of (faults.UnreadEdges j n) t g = absurd t
-  reason_of (faults.OtherResult j n) t g = absurd t
-  reason_of faults.NoAnswer t g = absurd g
-  reason_of faults.SourcesDiffer t g = absurd g
   reason_of faults.OutOfMemory t g = absurd t
+  reason_of fault t g = absurd g
 
   not_plan : (fault : AuditFault) → IsToldByFiles fault → RefusesPlan (queries.mean s.terms.profile) (queries.reads s.terms.profile) k s fault → ⊥
   not_plan (faults.OtherRead j n i) t g = t
@@ -156,23 +150,17 @@ module _ (queries : Queries) (past : Option SessionValue) (k : ℕ) (s : Session
   named_in : HasSources (entry_at s) → entry_at s Files ≡ None → ⊥
   named_in h none = none-some h.1.files.0 (sym none ∙ h.1.files.1)
 
-  one_names : (a b : List (List ℕ)) → HasFiles (entry_at s) a → HasFiles (entry_at s) b → a ≡ b
-  one_names a b x y =
-      let e : x.entry ≡ y.entry = same_Some _ _ (sym x.has ∙ y.has) in
-      let v : values.Files a ≡ values.Files b = sym x.value ∙ (ap (λ (r : Entry). r.value) e ∙ y.value) in
-      cc
-
-  one_missing : (f g : ℕ) → IsMissing s f → IsMissing s g → f ≡ g
+  one_missing : (f g : ℕ) → IsMissingSource s f → IsMissingSource s g → f ≡ g
   one_missing f g a b = once (HasBytes (entry_at s)) (source_keys b.names) f g
-      (subst (λ (ns : List (List ℕ)). IsFirstWithout (HasBytes (entry_at s)) (source_keys ns) f) (one_names a.names b.names a.files b.files) a.first) b.first
+      (subst (λ (ns : List (List ℕ)). IsFirstWithout (HasBytes (entry_at s)) (source_keys ns) f) (one_names (entry_at s) a.names b.names a.files b.files) a.first) b.first
 
   one_stray : (n m : ℕ) → IsStray s n → IsStray s m → n ≡ m
   one_stray n m a b = once (IsNoStray (source_keys b.names)) (entries s) n m
-      (subst (λ (ns : List (List ℕ)). IsFirstWithout (IsNoStray (source_keys ns)) (entries s) n) (one_names a.names b.names a.files b.files) a.first) b.first
+      (subst (λ (ns : List (List ℕ)). IsFirstWithout (IsNoStray (source_keys ns)) (entries s) n) (one_names (entry_at s) a.names b.names a.files b.files) a.first) b.first
 
-  missing_stray : (f n : ℕ) → IsMissing s f → IsStray s n → ⊥
+  missing_stray : (f n : ℕ) → IsMissingSource s f → IsStray s n → ⊥
   missing_stray f n a b =
-      let all = subst (λ (ns : List (List ℕ)). AllByRecursion (HasBytes (entry_at s)) (source_keys ns)) (one_names b.names a.names b.files a.files) b.each in
+      let all = subst (λ (ns : List (List ℕ)). AllByRecursion (HasBytes (entry_at s)) (source_keys ns)) (one_names (entry_at s) b.names a.names b.files a.files) b.each in
       a.first.lacks (all_at (HasBytes (entry_at s)) (source_keys a.names) all a.first.item (contains_there (source_keys a.names) f a.first.item a.first.here))
 
   one_green : (n m : ℕ) (why other : Lack) → RefusesGreen queries.by_profile past k s n why → RefusesGreen queries.by_profile past k s m other → green n why ≡ green m other

@@ -2,34 +2,32 @@
 use Rattle.std.proofs.Common.{◌≡◌, inl, inr, ℕ, suc, zero, ◌+◌, ◌<◌, ◌≤◌, true, false, List, [], ◌∷◌, take, length, slice_get, Some, Err, refl, sym, ap, ◌∙◌, subst, arith}
 use Rattle.std.specs.Prelude.{Contains, if◌then◌else◌}
 use Rattle.std.specs.List.{AllByRecursion}
-use Rattle.std.specs.declared.cmp.Ordering.{Ordering}
-use Rattle.std.specs.declared.cmp.Ordering.TheVariants.{Less, Equal, Greater}
-use Rattle.std.specs.Ordering.{is_lt, ordering_reverse}
+use Rattle.std.specs.declared.cmp.Ordering.TheVariants.{Less, Greater}
+use Rattle.std.specs.Ordering.{ordering_reverse}
 use Rattle.std.proofs.lemmas.Option.{none-some, same_Some, slice_get_within, get_or_from_slice_get}
 use Rattle.std.proofs.lemmas.Bool.{cases_order}
 use Rattle.std.proofs.lemmas.List.{take_all}
 use Rattle.item_ids.specs.declared.key.Key.{Key}
-use Rattle.item_ids.specs.declared.key.Key.TheVariants.{Files, Source, Tree, Index, Header, Method, Sig, Supers, Members, CheckClass, CheckBody, Diags, Answer}
-use Rattle.item_ids.specs.Keys.{key_cmp, key_total, kind_of}
-use Rattle.recorder.specs.Backed.{Meaning, ReadLists, rank}
-use Rattle.sessions.specs.Marks.{is_input, is_input_mark}
+use Rattle.item_ids.specs.Keys.{key_cmp, key_total}
+use Rattle.item_ids.specs.Inputs.{rank}
+use Rattle.recorder.specs.Backed.{Meaning, ReadLists}
+use Rattle.sessions.specs.Marks.{is_input_mark}
 use Rattle.sessions.specs.declared.mark.Mark.TheVariants.{Executed}
 use Rattle.sessions.specs.Sessions.{RecordValue, SessionValue, IsSession, FitsBehind, AreInside, Entry, entry_at, entry_of}
 use Rattle.sessions.proofs.EntryRules.{has_key, edges_here}
 use Rattle.graph_rules.proofs.NextRules.{all_at}
 use Rattle.audit_graph.specs.Plans.{is_executed, executed_from, executed_in}
 use Rattle.audit_graph.specs.Replays.{FollowsFromEdges, AreReplayed, is_before}
-use Rattle.audit_graph.proofs.Entries.{told_by, contains_cases, contains_first, contains_later}
+use Rattle.audit_graph.proofs.Entries.{told_by, nowhere, contains_cases, contains_first, contains_later, contains_there}
+use Rattle.audit_graph.proofs.Meant.{above}
 use Rattle.audit_graph.proofs.PlanRules.{plan_tells}
-use Rattle.audit_replay.specs.declared.mismatch.Mismatch.{Mismatch}
-use Rattle.audit_replay.specs.declared.mismatch.Mismatch.TheVariants.{OtherRead, UnreadEdges, OtherResult, OutOfMemory}
+use Rattle.audit_graph.proofs.StepRules.{less_from}
+use Rattle.audit_replay.specs.declared.replay.mismatch.Mismatch.{Mismatch}
+use Rattle.audit_replay.specs.declared.replay.mismatch.Mismatch.TheVariants.{OtherRead, UnreadEdges, OtherResult, OutOfMemory}
 use Rattle.audit_replay.specs.Reruns.{RerunGivesAt, IsFirstMismatch, RefusesPlan, mismatch_fault}
-use Rattle.audit_replay.proofs.Lists.{there, contains_there}
+use Rattle.audit_replay.proofs.Lists.{there}
 
 -- ---- the indices ascend
-
-nowhere : {X : Type 0} (x : X) → Contains [] x → ⊥
-nowhere x c = absurd (let b = c.1 in omega arith)
 
 at_least : (i m : ℕ) (rs : List RecordValue) → Contains (executed_from i rs) m → i ≤ m
 at_least i m [] c = absurd (nowhere m c)
@@ -64,20 +62,51 @@ in_front i n m (r ∷ rs) less j here c =
       | false ↦ λ at h. in_front (i + 1) n m rs less j at h
     ]) here c
 
-above : (q : Key) → false ≡ is_input (kind_of q) → 0 < rank q
-above Files e = absurd (cc)
-above (Source file) e = absurd (cc)
-above (Tree file) e = omega arith
-above Index e = omega arith
-above (Header c) e = omega arith
-above (Method c m) e = omega arith
-above (Sig c m) e = omega arith
-above (Supers c) e = omega arith
-above (Members c) e = omega arith
-above (CheckClass c) e = omega arith
-above (CheckBody c m) e = omega arith
-above (Diags c) e = omega arith
-above Answer e = omega arith
+-- ---- records in order
+
+in_take : {X : Type 0} (xs : List X) (i n : ℕ) (x : X) → slice_get xs i ≡ Some x → i < n → Contains (take n xs) x
+in_take [] i n x here less = absurd (none-some x here)
+in_take (y ∷ ys) i zero x here less = absurd (omega arith)
+in_take (y ∷ ys) zero (suc n) x here less = subst (Contains (y ∷ take n ys)) (same_Some y x here) (contains_first y (take n ys))
+in_take (y ∷ ys) (suc i) (suc n) x here less = contains_later y (take n ys) x (in_take ys i n x here (omega arith))
+
+not_itself : (k : Key) → key_cmp k k ≡ Less → ⊥
+not_itself k e = absurd (let f : Less ≡ Greater = sym e ∙ (key_total.antisymm k k ∙ ap ordering_reverse e) in cc)
+
+module _ (s : SessionValue) where
+  fits_at : IsSession s → (i : ℕ) (x : RecordValue) → slice_get s.records i ≡ Some x → FitsBehind (take i s.records) x
+  fits_at session i x here =
+      subst (FitsBehind (take i s.records)) (get_or_from_slice_get s.records i x x here) (session.records i x (slice_get_within s.records i x here))
+
+  -- an executed record is that of a key that is no input
+  pub rank_above : IsSession s → (i : ℕ) (x : RecordValue) → slice_get s.records i ≡ Some x → x.mark ≡ Executed → 0 < rank x.key
+  rank_above session i x here mark = above x.key (sym (ap is_input_mark mark) ∙ (fits_at session i x here).marked)
+
+  -- its edges are indices of records
+  pub edges_inside : IsSession s → (i : ℕ) (x : RecordValue) → slice_get s.records i ≡ Some x → AreInside s.records x.edges
+  edges_inside session i x here = edges_here s session i x (slice_get_within s.records i x here) (sym (get_or_from_slice_get s.records i x x here))
+
+  -- the keys before a record's are those of the records in front of it
+  less_at : IsSession s → (i n : ℕ) (x y : RecordValue) → slice_get s.records i ≡ Some x → slice_get s.records n ≡ Some y → i < n → key_cmp x.key y.key ≡ Less
+  less_at session i n x y hi hn less =
+      all_at (λ (r : RecordValue). key_cmp r.key y.key ≡ Less) (take n s.records) (fits_at session n y hn).above x (in_take s.records i n x hi less)
+
+  in_front_of : IsSession s → (i n : ℕ) (x y : RecordValue) → slice_get s.records i ≡ Some x → slice_get s.records n ≡ Some y → is_before y.key x.key ≡ true → i < n
+  in_front_of session i n x y hi hn before =
+      let less = less_from (key_cmp x.key y.key) before in
+      elim (cases_order i n) [
+        | inl same ↦ absurd (
+            let e : x ≡ y = same_Some x y (sym hi ∙ (ap (slice_get s.records) same ∙ hn)) in
+            not_itself y.key (ap (λ (z : RecordValue). key_cmp z.key y.key) (sym e) ∙ less))
+        | inr b ↦ elim b [
+          | inl below ↦ below
+          | inr above ↦ absurd (not_itself x.key (key_total.trans x.key y.key x.key less (less_at session n i y x hn hi above)))
+        ]
+      ]
+
+  -- the indices of the plan are those of executed records
+  pub plan_executed : (plan : List ℕ) → plan ≡ executed_in s → (j n : ℕ) → slice_get plan j ≡ Some n → (r : RecordValue) × (slice_get s.records n ≡ Some r) × (r.mark ≡ Executed)
+  plan_executed plan is j n here = (plan_tells s n).0 (subst (λ (ns : List ℕ). Contains ns n) is (contains_there plan j n here))
 
 -- ---- what follows
 
@@ -98,64 +127,15 @@ module _ (mean : Meaning) (reads : ReadLists) (s : SessionValue) where
       let here : slice_get s.records t.0 ≡ Some t.1 = there s.records t.0 t.1 t.2 (sym t.3) in
       follows_for (executed_in s) all r t.0 t.1 here t.4 (is_there t.0 t.1 r here t.4 mark)
 
-  fits_at : IsSession s → (i : ℕ) (x : RecordValue) → slice_get s.records i ≡ Some x → FitsBehind (take i s.records) x
-  fits_at session i x here =
-      subst (FitsBehind (take i s.records)) (get_or_from_slice_get s.records i x x here) (session.records i x (slice_get_within s.records i x here))
-
-  -- an executed record is that of a key that is no input
-  pub rank_above : IsSession s → (i : ℕ) (x : RecordValue) → slice_get s.records i ≡ Some x → x.mark ≡ Executed → 0 < rank x.key
-  rank_above session i x here mark = above x.key (sym (ap is_input_mark mark) ∙ (fits_at session i x here).marked)
-
-  -- its edges are indices of records
-  pub edges_inside : IsSession s → (i : ℕ) (x : RecordValue) → slice_get s.records i ≡ Some x → AreInside s.records x.edges
-  edges_inside session i x here = edges_here s session i x (slice_get_within s.records i x here) (sym (get_or_from_slice_get s.records i x x here))
-
-  -- ---- the keys before a record's are those of the records in front of it
-
-  in_take : {X : Type 0} (xs : List X) (i n : ℕ) (x : X) → slice_get xs i ≡ Some x → i < n → Contains (take n xs) x
-  in_take [] i n x here less = absurd (none-some x here)
-  in_take (y ∷ ys) i zero x here less = absurd (omega arith)
-  in_take (y ∷ ys) zero (suc n) x here less = subst (Contains (y ∷ take n ys)) (same_Some y x here) (contains_first y (take n ys))
-  in_take (y ∷ ys) (suc i) (suc n) x here less = contains_later y (take n ys) x (in_take ys i n x here (omega arith))
-
-  less_at : IsSession s → (i n : ℕ) (x y : RecordValue) → slice_get s.records i ≡ Some x → slice_get s.records n ≡ Some y → i < n → key_cmp x.key y.key ≡ Less
-  less_at session i n x y hi hn less =
-      all_at (λ (r : RecordValue). key_cmp r.key y.key ≡ Less) (take n s.records) (fits_at session n y hn).above x (in_take s.records i n x hi less)
-
-  less_from : (o : Ordering) → is_lt o ≡ true → o ≡ Less
-  less_from Less e = refl
-  less_from Equal e = absurd (cc)
-  less_from Greater e = absurd (cc)
-
-  not_itself : (k : Key) → key_cmp k k ≡ Less → ⊥
-  not_itself k e = absurd (let f : Less ≡ Greater = sym e ∙ (key_total.antisymm k k ∙ ap ordering_reverse e) in cc)
-
-  in_front_of : IsSession s → (i n : ℕ) (x y : RecordValue) → slice_get s.records i ≡ Some x → slice_get s.records n ≡ Some y → is_before y.key x.key ≡ true → i < n
-  in_front_of session i n x y hi hn before =
-      let less = less_from (key_cmp x.key y.key) before in
-      elim (cases_order i n) [
-        | inl same ↦ absurd (
-            let e : x ≡ y = same_Some x y (sym hi ∙ (ap (slice_get s.records) same ∙ hn)) in
-            not_itself y.key (ap (λ (z : RecordValue). key_cmp z.key y.key) (sym e) ∙ less))
-        | inr b ↦ elim b [
-          | inl below ↦ below
-          | inr above ↦ absurd (not_itself x.key (key_total.trans x.key y.key x.key less (less_at session n i y x hn hi above)))
-        ]
-      ]
-
   pub front_replayed : IsSession s → (j n : ℕ) (item : RecordValue) → AllByRecursion FollowsAt (take j (executed_in s)) → slice_get (executed_in s) j ≡ Some n → slice_get s.records n ≡ Some item
       → AreReplayed mean reads (entry_at s) (is_before item.key)
   front_replayed session j n item all at here q r before has mark =
       let t = told_by s q r has in
       let hi : slice_get s.records t.0 ≡ Some t.1 = there s.records t.0 t.1 t.2 (sym t.3) in
       let key : t.1.key ≡ q = ap (λ (e : Entry). e.key) t.4 ∙ has_key s session q r has in
-      let less = in_front_of session t.0 n t.1 item hi here (ap (is_before item.key) key ∙ before) in
+      let less = in_front_of s session t.0 n t.1 item hi here (ap (is_before item.key) key ∙ before) in
       follows_for (take j (executed_in s)) all r t.0 t.1 hi t.4
       (in_front 0 n t.0 s.records less j at (is_there t.0 t.1 r hi t.4 mark))
-
-  -- the indices of the plan are those of executed records
-  pub plan_executed : (plan : List ℕ) → plan ≡ executed_in s → (j n : ℕ) → slice_get plan j ≡ Some n → (r : RecordValue) × (slice_get s.records n ≡ Some r) × (r.mark ≡ Executed)
-  plan_executed plan is j n here = (plan_tells s n).0 (subst (λ (ns : List ℕ). Contains ns n) is (contains_there plan j n here))
 
   -- the first of the plan that differs from its run
   pub plan_refused : IsSession s → (plan : List ℕ) → plan ≡ executed_in s → (k j n : ℕ) → slice_get plan j ≡ Some n → AllByRecursion FollowsAt (take j plan)
@@ -164,7 +144,7 @@ module _ (mean : Meaning) (reads : ReadLists) (s : SessionValue) where
     where
       first : (why : Mismatch) → RerunGivesAt mean reads s n (Err why) → IsFirstMismatch mean reads s n why
       first why gives =
-          let x = plan_executed plan is j n here in
+          let x = plan_executed s plan is j n here in
           record {
             item = x.0;
             here = x.1;

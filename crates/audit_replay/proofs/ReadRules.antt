@@ -5,7 +5,7 @@ use Rattle.sessions.specs.Spelling.{file_of}
 use Rattle.session_file.specs.Feeding.{Given, CountsIf, is_device}
 use Rattle.session_file.specs.Reading.{IsUnlessStopped, front_after, session_after}
 use Rattle.session_file.specs.declared.fault.FileFault.{FileFault}
-use Rattle.session_file.specs.declared.fault.FileFault.TheVariants.{BadMagic, Version, Truncated, BadDigest, KeyOrder, BadEdge, Result as BadResult, InputKind, Trailing, Device, BadKey, Number, NoPastResult, OutOfMemory}
+use Rattle.session_file.specs.declared.fault.FileFault.TheVariants.{Trailing, Device, OutOfMemory}
 use Rattle.session_file.proofs.FileLaws.{front_again, file_is_longer, file_breaks}
 use Rattle.audit_graph.specs.declared.fault.AuditFault.TheVariants as faults
 use Rattle.audit_replay.specs.Sums.{ReadFails, CountsFault, file_fault}
@@ -35,20 +35,9 @@ module _ (past : Option SessionValue) (old now new : List ℕ → Type 0) (s : S
       longer (x ∷ xs) not = omega arith
 
 pub file_fails : (past : Option SessionValue) (k : ℕ) (bytes : List ℕ) (fault : FileFault) → IsUnlessStopped {A = SessionValue} (Err fault) (session_after past bytes) → ReadFails past k bytes (file_fault k fault)
-file_fails past k bytes BadMagic e = inr (refl, file_breaks past bytes BadMagic (sym e))
-file_fails past k bytes Version e = inr (refl, file_breaks past bytes Version (sym e))
-file_fails past k bytes Truncated e = inr (refl, file_breaks past bytes Truncated (sym e))
-file_fails past k bytes BadDigest e = inr (refl, file_breaks past bytes BadDigest (sym e))
-file_fails past k bytes (KeyOrder i) e = inr (refl, file_breaks past bytes (KeyOrder i) (sym e))
-file_fails past k bytes (BadEdge i j) e = inr (refl, file_breaks past bytes (BadEdge i j) (sym e))
-file_fails past k bytes (BadResult i) e = inr (refl, file_breaks past bytes (BadResult i) (sym e))
-file_fails past k bytes (InputKind i) e = inr (refl, file_breaks past bytes (InputKind i) (sym e))
-file_fails past k bytes Trailing e = inr (refl, file_breaks past bytes Trailing (sym e))
 file_fails past k bytes Device e = inl (record { is = refl })
-file_fails past k bytes (BadKey i) e = inr (refl, file_breaks past bytes (BadKey i) (sym e))
-file_fails past k bytes Number e = inr (refl, file_breaks past bytes Number (sym e))
-file_fails past k bytes (NoPastResult i) e = inr (refl, file_breaks past bytes (NoPastResult i) (sym e))
 file_fails past k bytes OutOfMemory e = inr tt
+file_fails past k bytes fault e = inr (refl, file_breaks past bytes fault (sym e))
 
 pub file_counts : (k : ℕ) (fault : FileFault) (old new : ℕ) → CountsIf (is_device fault) old new → CountsFault (file_fault k fault) old new
 file_counts k OutOfMemory old new c = c

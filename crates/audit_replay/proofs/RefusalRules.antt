@@ -5,11 +5,14 @@ use Rattle.std.specs.List.{AllByRecursion}
 use Rattle.std.specs.declared.cmp.Ordering.TheVariants.{Less}
 use Rattle.std.specs.Ordering.{is_lt}
 use Rattle.std.proofs.lemmas.List.{length-take-le}
+use Rattle.std.proofs.lemmas.List.Elements.{Contains-append_left, Contains-push}
 use Rattle.std.proofs.lemmas.Option.{slice_get_within, get_or_from_slice_get}
 use Rattle.item_ids.specs.declared.key.Key.{Key}
 use Rattle.item_ids.specs.Keys.{key_cmp}
+use Rattle.item_ids.specs.Inputs.{rank}
+use Rattle.item_ids.proofs.Lists.{all_push}
 use Rattle.recorder.specs.Projects.{Project}
-use Rattle.recorder.specs.Backed.{Meaning, ReadLists, Queries, AreLawful, ReadValue, rank, keys, Gives, GivesEach}
+use Rattle.recorder.specs.Backed.{Meaning, ReadLists, Queries, AreLawful, ReadValue, keys, Gives, GivesEach}
 use Rattle.sessions.specs.Sessions.{SessionValue, IsSession, Entry, entry_of, entry_at}
 use Rattle.sessions.specs.Spelling.{file_of}
 use Rattle.sessions.proofs.EntryRules.{entry_of_place, has_key}
@@ -20,9 +23,9 @@ use Rattle.graph_rules.proofs.SessionRules.{session_graph}
 use Rattle.audit_graph.specs.Steps.{IsSessionStep}
 use Rattle.audit_graph.specs.Replays.{AreWithLower, IsHeld, is_before}
 use Rattle.audit_graph.specs.declared.fault.AuditFault.TheVariants as faults
-use Rattle.audit_graph.proofs.Entries.{all_last, contains_first, contains_later, contains_cases}
-use Rattle.audit_replay.specs.declared.mismatch.Mismatch.{Mismatch}
-use Rattle.audit_replay.specs.declared.mismatch.Mismatch.TheVariants.{OtherRead, UnreadEdges, OtherResult, OutOfMemory}
+use Rattle.audit_graph.proofs.Entries.{nowhere, contains_first, contains_later, contains_cases}
+use Rattle.audit_replay.specs.declared.replay.mismatch.Mismatch.{Mismatch}
+use Rattle.audit_replay.specs.declared.replay.mismatch.Mismatch.TheVariants.{OtherRead, UnreadEdges, OtherResult, OutOfMemory}
 use Rattle.audit_replay.specs.Reruns.{RerunGives, IsFirstMismatch}
 use Rattle.audit_replay.specs.Audits.{ArePassed, AreApart, AreRight, IsRefusedBehind, last_of}
 use Rattle.audit_replay.specs.Refusals.{IsFirstWrong, HasFirstWrong}
@@ -30,23 +33,12 @@ use Rattle.audit_replay.proofs.ApartRules.{one_by_print}
 use Rattle.audit_replay.proofs.ChainRules.{front_right, before_means}
 
 contains_take : {X : Type 0} (n : ℕ) (xs : List X) (x : X) → Contains (take n xs) x → Contains xs x
-contains_take zero xs x c = absurd (let b = c.1 in omega arith)
+contains_take zero xs x c = absurd (nowhere x c)
 contains_take (suc n) [] x c = c
 contains_take (suc n) (y ∷ ys) x c = elim (contains_cases y (take n ys) x c) [
   | inl same ↦ subst (Contains (y ∷ ys)) same (contains_first y ys)
   | inr later ↦ contains_later y ys x (contains_take n ys x later)
 ]
-
-contains_front : {X : Type 0} (xs ys : List X) (x : X) → Contains xs x → Contains (xs ++ ys) x
-contains_front [] ys x c = absurd (let b = c.1 in omega arith)
-contains_front (y ∷ xs) ys x c = elim (contains_cases y xs x c) [
-  | inl same ↦ subst (Contains (y ∷ (xs ++ ys))) same (contains_first y (xs ++ ys))
-  | inr later ↦ contains_later y (xs ++ ys) x (contains_front xs ys x later)
-]
-
-contains_last : {X : Type 0} (xs : List X) (x : X) → Contains (xs ++ x ∷ []) x
-contains_last [] x = contains_first x []
-contains_last (y ∷ xs) x = contains_later y (xs ++ x ∷ []) x (contains_last xs x)
 
 at_end : {X : Type 0} (xs : List X) (x : X) (rest : List X) → slice_get ((xs ++ x ∷ []) ++ rest) (length xs) ≡ Some x
 at_end [] x rest = refl
@@ -100,10 +92,10 @@ module _ (queries : Queries) (laws : AreLawful queries) (lesser : (a b : Key) �
       → AreApart (front ++ s ∷ []) → AreRight queries None front × IsFirstWrong queries (last_of None front) s n
   first_wrong front s each session passed step n why other first apart =
       let all = front ++ s ∷ [] in
-      let by_print = one_by_print all (all_last IsSession front s each session) apart in
-      let sound = front_right queries laws all by_print front (λ t c. contains_front front (s ∷ []) t c) each passed in
+      let by_print = one_by_print all (all_push IsSession front s each session) apart in
+      let sound = front_right queries laws all by_print front (λ t c. Contains-append_left front (s ∷ []) t c) each passed in
       let p = step.sources.0 in
-      let before = before_means queries laws all by_print (last_of None front) sound.1 (length front) s (contains_last front s) session step p step.sources.1
+      let before = before_means queries laws all by_print (last_of None front) sound.1 (length front) s (Contains-push front s) session step p step.sources.1
       first.item.key (lower first.item.key) first.before in
       let within = slice_get_within s.records n first.item first.here in
       let has = entry_of_place s session n first.item within (get_or_from_slice_get s.records n first.item first.item first.here) in

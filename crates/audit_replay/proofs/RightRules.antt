@@ -17,15 +17,15 @@ use Rattle.graph_rules.specs.Next.{AreSources, IsRightAfter}
 use Rattle.audit_graph.specs.Chains.{IsLinked, AreLinked}
 use Rattle.audit_graph.specs.Steps.{IsFirstLack, CheckStepGives, setting_behind}
 use Rattle.audit_graph.specs.declared.greens.Lack.{Lack}
+use Rattle.audit_graph.proofs.Entries.{contains_there}
 use Rattle.audit_graph.specs.declared.fault.AuditFault.{AuditFault}
 use Rattle.audit_graph.specs.declared.fault.AuditFault.TheVariants as faults
-use Rattle.audit_replay.specs.declared.mismatch.Mismatch.{Mismatch}
-use Rattle.audit_replay.specs.declared.mismatch.Mismatch.TheVariants.{OtherRead, UnreadEdges, OtherResult, OutOfMemory}
+use Rattle.audit_replay.specs.declared.replay.mismatch.Mismatch.{Mismatch}
+use Rattle.audit_replay.specs.declared.replay.mismatch.Mismatch.TheVariants.{OtherRead, UnreadEdges, OtherResult, OutOfMemory}
 use Rattle.audit_replay.specs.Reruns.{IsFirstMismatch, RefusesPlan}
 use Rattle.audit_replay.specs.Passes.{RunsWithin, SessionRefuses, FileRefuses}
 use Rattle.audit_replay.specs.Audits.{AreRight, AreApart, IsAccepted, IsRefusedBehind, AuditRefuses, last_of, last_entry}
 use Rattle.audit_replay.specs.RightChains.{IsRightChain}
-use Rattle.audit_replay.proofs.Lists.{contains_there}
 use Rattle.audit_replay.proofs.FileRules.{linked_taken, passed_taken}
 use Rattle.audit_replay.proofs.SessionFiles.{file_again, one_session, same_sessions}
 use Rattle.audit_replay.proofs.SourceFaults.{told_of_entry, not_missing, not_stray}
@@ -48,8 +48,6 @@ module _ (queries : Queries) (past : Option SessionValue) (k : ℕ) (s : Session
       m.first.lacks (right.greens m.first.item.key m.first.item (told_of_entry s session m.first.item c))
 
   not_step : (fault : AuditFault) → CheckStepGives queries.by_profile past k s (Err fault) → fault ≡ faults.OutOfMemory
-  not_step faults.EmptyChain g = absurd g
-  not_step (faults.File j f) g = absurd g
   not_step (faults.BrokenLink j) g = absurd (g.1 linked)
   not_step (faults.NoFiles j) g = absurd (none-some sources.files.0 (sym g.2 ∙ sources.files.1))
   not_step (faults.MissingSource j f) g = absurd (not_missing s session right.project sources f g.2)
@@ -59,12 +57,8 @@ module _ (queries : Queries) (past : Option SessionValue) (k : ℕ) (s : Session
   not_step (faults.OtherEdges j n) g = absurd (not_lack n _ g.1.first)
   not_step (faults.GreenOverRed j n i) g = absurd (not_lack n _ g.1.first)
   not_step (faults.GreenPrint j n) g = absurd (not_lack n _ g.1.first)
-  not_step (faults.OtherRead j n i) g = absurd g
-  not_step (faults.UnreadEdges j n) g = absurd g
-  not_step (faults.OtherResult j n) g = absurd g
-  not_step faults.NoAnswer g = absurd g
-  not_step faults.SourcesDiffer g = absurd g
   not_step faults.OutOfMemory g = refl
+  not_step fault g = absurd g
 
   no_mismatch : (n : ℕ) (why : Mismatch) → (why ≢ OutOfMemory) → IsFirstMismatch mean reads s n why → ⊥
   no_mismatch n why other first =
@@ -75,23 +69,11 @@ module _ (queries : Queries) (past : Option SessionValue) (k : ℕ) (s : Session
       differs mean reads (entry_at s) right.project sources.project r (λ e x c is. (right.of_project.meant e x is).0) why other first.differs m.0 m.1
 
   not_plan : (fault : AuditFault) → RefusesPlan mean reads k s fault → fault ≡ faults.OutOfMemory
-  not_plan faults.EmptyChain g = absurd g
-  not_plan (faults.File j f) g = absurd g
-  not_plan (faults.BrokenLink j) g = absurd g
-  not_plan (faults.NoFiles j) g = absurd g
-  not_plan (faults.MissingSource j f) g = absurd g
-  not_plan (faults.StraySource j n) g = absurd g
-  not_plan (faults.GreenWithoutPast j n) g = absurd g
-  not_plan (faults.GreenAcrossProfiles j n) g = absurd g
-  not_plan (faults.OtherEdges j n) g = absurd g
-  not_plan (faults.GreenOverRed j n i) g = absurd g
-  not_plan (faults.GreenPrint j n) g = absurd g
   not_plan (faults.OtherRead j n i) g = absurd (no_mismatch n (OtherRead i) (λ e. absurd (cc)) g.1)
   not_plan (faults.UnreadEdges j n) g = absurd (no_mismatch n UnreadEdges (λ e. absurd (cc)) g.1)
   not_plan (faults.OtherResult j n) g = absurd (no_mismatch n OtherResult (λ e. absurd (cc)) g.1)
-  not_plan faults.NoAnswer g = absurd g
-  not_plan faults.SourcesDiffer g = absurd g
   not_plan faults.OutOfMemory g = refl
+  not_plan fault g = absurd g
 
   not_session : (fault : AuditFault) → SessionRefuses queries past k s fault → fault ≡ faults.OutOfMemory
   not_session fault (inl g) = not_step fault g
@@ -109,21 +91,7 @@ module _ (queries : Queries) (past : Option SessionValue) (k : ℕ) (s : Session
   not_file : (fault : AuditFault) → FileRefuses queries past k file old new fault → fault ≡ faults.OutOfMemory
   not_file (faults.File j f) g = absurd (let o : Ok s ≡ Err f = sym (file_again past s session taken) ∙ (ap (file_after past) spelled ∙ g.1) in cc)
   not_file faults.OutOfMemory g = refl
-  not_file faults.EmptyChain g = some_session faults.EmptyChain g
-  not_file (faults.BrokenLink j) g = some_session (faults.BrokenLink j) g
-  not_file (faults.NoFiles j) g = some_session (faults.NoFiles j) g
-  not_file (faults.MissingSource j f) g = some_session (faults.MissingSource j f) g
-  not_file (faults.StraySource j n) g = some_session (faults.StraySource j n) g
-  not_file (faults.GreenWithoutPast j n) g = some_session (faults.GreenWithoutPast j n) g
-  not_file (faults.GreenAcrossProfiles j n) g = some_session (faults.GreenAcrossProfiles j n) g
-  not_file (faults.OtherEdges j n) g = some_session (faults.OtherEdges j n) g
-  not_file (faults.GreenOverRed j n i) g = some_session (faults.GreenOverRed j n i) g
-  not_file (faults.GreenPrint j n) g = some_session (faults.GreenPrint j n) g
-  not_file (faults.OtherRead j n i) g = some_session (faults.OtherRead j n i) g
-  not_file (faults.UnreadEdges j n) g = some_session (faults.UnreadEdges j n) g
-  not_file (faults.OtherResult j n) g = some_session (faults.OtherResult j n) g
-  not_file faults.NoAnswer g = some_session faults.NoAnswer g
-  not_file faults.SourcesDiffer g = some_session faults.SourcesDiffer g
+  not_file fault g = some_session fault g
 
 -- ---- chains
 
@@ -172,19 +140,7 @@ module _ (queries : Queries) where
         absurd (chain.answered (subst (λ (ss : List SessionValue). last_entry ss Answer ≡ None) same r.1.holds))
     refused faults.SourcesDiffer r = absurd r
     refused faults.OutOfMemory r = refl
-    refused (faults.File j f) r = refused_behind (faults.File j f) r
-    refused (faults.BrokenLink j) r = refused_behind (faults.BrokenLink j) r
-    refused (faults.NoFiles j) r = refused_behind (faults.NoFiles j) r
-    refused (faults.MissingSource j f) r = refused_behind (faults.MissingSource j f) r
-    refused (faults.StraySource j n) r = refused_behind (faults.StraySource j n) r
-    refused (faults.GreenWithoutPast j n) r = refused_behind (faults.GreenWithoutPast j n) r
-    refused (faults.GreenAcrossProfiles j n) r = refused_behind (faults.GreenAcrossProfiles j n) r
-    refused (faults.OtherEdges j n) r = refused_behind (faults.OtherEdges j n) r
-    refused (faults.GreenOverRed j n i) r = refused_behind (faults.GreenOverRed j n i) r
-    refused (faults.GreenPrint j n) r = refused_behind (faults.GreenPrint j n) r
-    refused (faults.OtherRead j n i) r = refused_behind (faults.OtherRead j n i) r
-    refused (faults.UnreadEdges j n) r = refused_behind (faults.UnreadEdges j n) r
-    refused (faults.OtherResult j n) r = refused_behind (faults.OtherResult j n) r
+    refused fault r = refused_behind fault r
 
 -- an accepted chain
 pub accepted_right : (queries : Queries) (files : List (List ℕ)) (old new : List Key) (profile : Profile) (project : Project) (answer : Value) (count runs : ℕ)

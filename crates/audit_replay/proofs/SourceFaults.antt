@@ -1,10 +1,9 @@
 -- A session that holds the files of a project lacks none of them, and has no other source.
-use Rattle.std.proofs.Common.{◌≡◌, inl, inr, ℕ, ◌<◌, List, [], ◌∷◌, length, Option, Some, refl, sym, ap, ◌∙◌, subst, arith}
+use Rattle.std.proofs.Common.{◌≡◌, inl, inr, ℕ, ◌<◌, true, false, List, [], ◌∷◌, length, Option, Some, refl, sym, ap, ◌∙◌, subst, arith}
 use Rattle.std.specs.Prelude.{Contains}
-use Rattle.std.proofs.lemmas.Option.{same_Some}
 use Rattle.std.proofs.lemmas.List.{get_or-map, length-map}
 use Rattle.item_ids.specs.declared.key.Key.{Key}
-use Rattle.item_ids.specs.declared.key.Key.TheVariants.{Files, Source, Tree, Index, Header, Method, Sig, Supers, Members, CheckClass, CheckBody, Diags, Answer}
+use Rattle.item_ids.specs.declared.key.Key.TheVariants.{Source}
 use Rattle.item_ids.specs.declared.kind.Kind.TheVariants as kinds
 use Rattle.item_ids.specs.Keys.{kind_of}
 use Rattle.result_bytes.specs.declared.value.Value.TheVariants as values
@@ -15,20 +14,14 @@ use Rattle.sessions.proofs.EntryRules.{entry_of_place}
 use Rattle.graph_rules.specs.Pasts.{Past}
 use Rattle.graph_rules.specs.Next.{AreSources}
 use Rattle.audit_graph.specs.Sources.{HasFiles, HasBytes, source_keys}
-use Rattle.audit_graph.specs.Steps.{IsMissing, IsStray}
-use Rattle.audit_graph.proofs.Entries.{item_at, contains_first, contains_later, contains_cases}
-use Rattle.audit_replay.proofs.AgainstRules.{nowhere}
+use Rattle.audit_graph.specs.Steps.{IsMissingSource, IsStray}
+use Rattle.item_ids.specs.Inputs.{Origin, origin, is_input}
+use Rattle.item_ids.specs.Inputs.Origin.{files, source, computed}
+use Rattle.audit_graph.proofs.Entries.{item_at, nowhere, contains_first, contains_later, contains_cases, contains_there}
+use Rattle.audit_graph.proofs.SourceRules.{source_there, one_names, names_held}
 use Rattle.audit_replay.proofs.InputRules.{bytes_named}
-use Rattle.audit_replay.proofs.Lists.{contains_there}
 
 -- ---- the files of a project
-
-source_there : (names : List (List ℕ)) (file : List ℕ) → Contains names file → Contains (source_keys names) (Source file)
-source_there [] file c = absurd (nowhere file c)
-source_there (n ∷ ns) file c = elim (contains_cases n ns file c) [
-  | inl same ↦ subst (λ (m : List ℕ). Contains (source_keys (n ∷ ns)) (Source m)) same (contains_first (Source n) (source_keys ns))
-  | inr later ↦ contains_later (Source n) (source_keys ns) (Source file) (source_there ns file later)
-]
 
 source_of : (names : List (List ℕ)) (q : Key) → Contains (source_keys names) q → (file : List ℕ) × Contains names file × (Source file ≡ q)
 source_of [] q c = absurd (nowhere q c)
@@ -37,20 +30,11 @@ source_of (n ∷ ns) q c = elim (contains_cases (Source n) (source_keys ns) q c)
   | inr later ↦ (let h = source_of ns q later in (h.0, contains_later n ns h.0 h.1, h.2))
 ]
 
-source_key : (k : Key) → kind_of k ≡ kinds.Source → (file : List ℕ) × (k ≡ Source file)
-source_key Files e = absurd (cc)
-source_key (Source file) e = (file, refl)
-source_key (Tree file) e = absurd (cc)
-source_key Index e = absurd (cc)
-source_key (Header c) e = absurd (cc)
-source_key (Method c m) e = absurd (cc)
-source_key (Sig c m) e = absurd (cc)
-source_key (Supers c) e = absurd (cc)
-source_key (Members c) e = absurd (cc)
-source_key (CheckClass c) e = absurd (cc)
-source_key (CheckBody c m) e = absurd (cc)
-source_key (Diags c) e = absurd (cc)
-source_key Answer e = absurd (cc)
+-- a key of the kind of sources is one
+source_key : (k : Key) → Origin k → kind_of k ≡ kinds.Source → (file : List ℕ) × (k ≡ Source file)
+source_key _ files e = absurd (cc)
+source_key _ (source file) e = (file, refl)
+source_key _ (computed k is) e = absurd (let t : true ≡ false = ap is_input (sym e) ∙ is.kind in cc)
 
 module _ (now : Past) (p : Project) (sources : AreSources now p) where
   pub has_bytes : (q : Key) → Contains (source_keys (names_of p)) q → HasBytes now q
@@ -61,10 +45,7 @@ module _ (now : Past) (p : Project) (sources : AreSources now p) where
       subst (HasBytes now) f.2 (record { entry = x.0; bytes = b.0; has = x.1; value = x.2 ∙ ap (λ (o : Option (List ℕ)). values.Source o) b.1 })
 
   pub held_names : (names : List (List ℕ)) → HasFiles now names → names ≡ names_of p
-  held_names names files =
-      let e : files.entry ≡ sources.files.0 = same_Some _ _ (sym files.has ∙ sources.files.1) in
-      let v : values.Files names ≡ values.Files (names_of p) = sym files.value ∙ (ap (λ (x : Entry). x.value) e ∙ sources.files.2) in
-      cc
+  held_names names held = one_names now names (names_of p) held (names_held now p sources)
 
 -- ---- what a session tells
 
@@ -77,7 +58,7 @@ told_of_entry s session r c =
     subst (λ (y : Entry). entry_at s y.key ≡ Some y) e (entry_of_place s session c.0 x.0 lt x.1)
 
 module _ (s : SessionValue) (session : IsSession s) (p : Project) (sources : AreSources (entry_at s) p) where
-  pub not_missing : (f : ℕ) → IsMissing s f → ⊥
+  pub not_missing : (f : ℕ) → IsMissingSource s f → ⊥
   not_missing f m =
       let same = held_names (entry_at s) p sources m.names m.files in
       let c = contains_there (source_keys m.names) f m.first.item m.first.here in
@@ -89,6 +70,6 @@ module _ (s : SessionValue) (session : IsSession s) (p : Project) (sources : Are
       let c = contains_there (entries s) n m.first.item m.first.here in
       let has = told_of_entry s session m.first.item c in
       m.first.lacks (λ kind.
-      let f = source_key m.first.item.key kind in
+      let f = source_key m.first.item.key (origin m.first.item.key) kind in
       let inn = sources.others f.0 m.first.item (ap (entry_at s) (sym f.1) ∙ has) in
       subst (Contains (source_keys m.names)) (sym f.1) (source_there m.names f.0 (subst (λ (ns : List (List ℕ)). Contains ns f.0) (sym same) inn)))

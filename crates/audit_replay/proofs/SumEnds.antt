@@ -24,40 +24,40 @@ use Rattle.audit_graph.proofs.SourceRules.{one_project}
 use Rattle.session_file.specs.declared.fault.FileFault.TheVariants.{Device}
 use Rattle.audit_replay.specs.Logs.{all_executed_keys, RunsExecuted, RunsNoOther}
 use Rattle.audit_replay.specs.Audits.{AreApart, AreRight, last_of, last_entry, HasValue, HaveFiles, IsAccepted, IsLastProfile, IsRefusedBehind, AuditRefuses, AuditRefusesAgainst, PassesWith}
-use Rattle.audit_replay.specs.Projects.{IsInputsOf}
+use Rattle.audit_replay.specs.Projects.{HasFilesAlike}
 use Rattle.audit_replay.specs.RightChains.{AreRightInChain}
-use Rattle.audit_replay.specs.Sums.{IsAnswer, IsLastOf, IsLast, IsSumOf, Sums, Takes, IsDeviceFault, TakeRefuses, CountsFault, Ends, EndRefuses, EndRefusesAgainst, EndGives, EndGivesAgainst, AreSummed}
+use Rattle.audit_replay.specs.Sums.{IsAnswer, KeepsSession, KeepsLast, IsSumOf, Sums, TakesSession, IsDeviceFault, TakeRefuses, CountsFault, EndAccepts, EndRefuses, EndRefusesAgainst, EndGives, EndGivesAgainst, AreSummed}
 use Rattle.audit_replay.specs.declared.chain.Audited.{Audited}
-use Rattle.audit_replay.specs.declared.sum.Last.{Last}
+use Rattle.audit_replay.specs.declared.sum.LastSession.{LastSession}
 use Rattle.audit_replay.specs.declared.sum.Sum.{Sum}
 use Rattle.audit_replay.proofs.FileRules.{none_last, passed_linked, file_passed, file_refused}
 use Rattle.audit_replay.proofs.AcceptedRules.{meant_by_last, last_accepted, right_accepted, means_accepted, sources_accepted}
 use Rattle.audit_replay.proofs.ChainRules.{all_right}
-use Rattle.audit_replay.proofs.InputRules.{inputs_alike}
+use Rattle.audit_replay.proofs.InputRules.{texts_alike}
 use Rattle.audit_replay.proofs.AuditLogs.{passed_log, refused_log}
 use Rattle.audit_replay.proofs.Lists.{take_there}
 
 -- ---- the last session
 
-empty_last : (o : Option SessionValue) → IsLast None o → o ≡ None
+empty_last : (o : Option SessionValue) → KeepsLast None o → o ≡ None
 empty_last None i = refl
 empty_last (Some s) i = absurd i
 
 pub sum_empty : (kept : Sum) (ss : List SessionValue) → IsSumOf kept ss → kept.last ≡ None → ss ≡ []
-sum_empty kept ss a none = none_last ss (empty_last (last_of None ss) (subst (λ (l : Option Last). IsLast l (last_of None ss)) none a.last))
+sum_empty kept ss a none = none_last ss (empty_last (last_of None ss) (subst (λ (l : Option LastSession). KeepsLast l (last_of None ss)) none a.last))
 
 -- the session of which this is kept
-pub record IsThere (l : Last) (o : Option SessionValue) : Type 0 where
+pub record IsThere (l : LastSession) (o : Option SessionValue) : Type 0 where
   pub session : SessionValue
   pub is : o ≡ Some session
-  pub kept : IsLastOf l session
+  pub kept : KeepsSession l session
 
-last_there : (l : Last) (o : Option SessionValue) → IsLast (Some l) o → IsThere l o
+last_there : (l : LastSession) (o : Option SessionValue) → KeepsLast (Some l) o → IsThere l o
 last_there l None i = absurd i
 last_there l (Some s) i = record { session = s; is = refl; kept = i }
 
-pub sum_last : (kept : Sum) (ss : List SessionValue) → IsSumOf kept ss → (l : Last) → kept.last ≡ Some l → IsThere l (last_of None ss)
-sum_last kept ss a l is = last_there l (last_of None ss) (subst (λ (o : Option Last). IsLast o (last_of None ss)) is a.last)
+pub sum_last : (kept : Sum) (ss : List SessionValue) → IsSumOf kept ss → (l : LastSession) → kept.last ≡ Some l → IsThere l (last_of None ss)
+sum_last kept ss a l is = last_there l (last_of None ss) (subst (λ (o : Option LastSession). KeepsLast o (last_of None ss)) is a.last)
 
 some_sessions : (ss : List SessionValue) (s : SessionValue) → last_of None ss ≡ Some s → ss ≢ []
 some_sessions [] s e = λ _. none-some s e
@@ -69,7 +69,7 @@ right_last queries past [] s some right e = absurd (some refl)
 right_last queries past (t ∷ []) s some right e = (past, subst (λ (x : SessionValue). IsRightAfter queries past x) (same_Some t s e) right.0)
 right_last queries past (t ∷ u ∷ us) s some right e = right_last queries (Some t) (u ∷ us) s (λ h. absurd cc) right.1 e
 
-module _ (queries : Queries) (kept : Sum) (ss : List SessionValue) (a : IsSumOf kept ss) (l : Last) (is : kept.last ≡ Some l) where
+module _ (queries : Queries) (kept : Sum) (ss : List SessionValue) (a : IsSumOf kept ss) (l : LastSession) (is : kept.last ≡ Some l) where
   -- what the session says, the last one says
   last_tells : (P : Past → Type 0) → P (entry_at (sum_last kept ss a l is).session) → P (last_entry ss)
   last_tells P p = subst (λ (o : Option SessionValue). P (past_entry o)) (sym (sum_last kept ss a l is).is) p
@@ -82,7 +82,7 @@ module _ (queries : Queries) (kept : Sum) (ss : List SessionValue) (a : IsSumOf 
       let same = one_project (entry_at t.session) r.1.project p r.1.of_project.sources own in
       sym held.value ∙ ((r.1.of_project.meant Answer held.entry held.has).0 ∙ ap (λ (x : Project). queries.mean t.session.terms.profile x Answer) same)
 
-  pub sum_ends : (answer : Arc Value Global) → l.answer ≡ Some answer → Ends queries ss (record { profile = l.session.terms.profile; answer = answer; sessions = kept.count; runs = kept.runs })
+  pub sum_ends : (answer : Arc Value Global) → l.answer ≡ Some answer → EndAccepts queries ss (record { profile = l.session.terms.profile; answer = answer; sessions = kept.count; runs = kept.runs })
   sum_ends answer has =
       let t = sum_last kept ss a l is in
       let held : HasValue (entry_at t.session) Answer (arc_value answer) = subst (IsAnswer t.session) has t.kept.answer in
@@ -103,13 +103,14 @@ module _ (queries : Queries) (kept : Sum) (ss : List SessionValue) (a : IsSumOf 
       (some_sessions ss t.session t.is, last_tells (λ now. now Answer ≡ None) (subst (IsAnswer t.session) has t.kept.answer))
 
 -- whether the last session's files are those of a project
-pub sum_files : (kept : Sum) (ss : List SessionValue) → IsSumOf kept ss → (l : Last) → kept.last ≡ Some l → (p : Project) → IsProject p → (b : Bool)
-    → IsTrue b ↔ IsInputsOf (arc_value l.inputs.names) (map arc_value l.inputs.texts.items) p → IsTrue b ↔ AreSources (last_entry ss) p
+pub sum_files : (kept : Sum) (ss : List SessionValue) → IsSumOf kept ss → (l : LastSession) → kept.last ≡ Some l → (p : Project) → IsProject p → (b : Bool)
+    → IsTrue b ↔ HasFilesAlike (entry_at l.session) (map arc_value l.texts.items) p → IsTrue b ↔ AreSources (last_entry ss) p
 sum_files kept ss a l is p project b h =
     let t = sum_last kept ss a l is in
-    let both = inputs_alike (entry_at t.session) (arc_value l.inputs.names) (map arc_value l.inputs.texts.items) t.kept.inputs t.kept.sources p project in (
-      (λ yes_. subst (λ (o : Option SessionValue). AreSources (past_entry o) p) (sym t.is) (both.0 (h.0 yes_))),
-      (λ s. h.1 (both.1 (subst (λ (o : Option SessionValue). AreSources (past_entry o) p) t.is s))),
+    let own = subst (λ (s : SessionValue). IsTrue b ↔ HasFilesAlike (entry_at s) (map arc_value l.texts.items) p) t.kept.session h in
+    let both = texts_alike (entry_at t.session) (map arc_value l.texts.items) t.kept.texts t.kept.sources p project in (
+      (λ yes_. subst (λ (o : Option SessionValue). AreSources (past_entry o) p) (sym t.is) (both.0 (own.0 yes_))),
+      (λ s. own.1 (both.1 (subst (λ (o : Option SessionValue). AreSources (past_entry o) p) t.is s))),
     )
 
 -- ---- beside a project
@@ -118,7 +119,7 @@ pub ends_refused : (ss : List SessionValue) (p : Project) (fault : AuditFault) �
 ends_refused ss p SourcesDiffer r = absurd r
 ends_refused ss p fault r = r
 
-pub ends_other : (queries : Queries) (ss : List SessionValue) (a : Audited) → Ends queries ss a → (p : Project) (b : Bool) → b ≡ false → IsTrue b ↔ AreSources (last_entry ss) p
+pub ends_other : (queries : Queries) (ss : List SessionValue) (a : Audited) → EndAccepts queries ss a → (p : Project) (b : Bool) → b ≡ false → IsTrue b ↔ AreSources (last_entry ss) p
     → (last_entry ss Answer ≢ None) × ¬ AreSources (last_entry ss) p
 ends_other queries ss a e p b is h = (
   (λ none. none-some e.held.entry (sym none ∙ e.held.has)),
@@ -144,7 +145,7 @@ no_device k fault d c = let h : CountsFault (File k Device) 0 0 = subst (λ (f :
 
 -- one more file
 pub summed_more : (queries : Queries) (front : List (List ℕ)) (file : List ℕ) (old now new : List Key) (state after : Result Sum AuditFault) (held left : List ℕ → Type 0) (s : SessionValue)
-    → AreSummed queries front old now state → file ≡ file_of s → Takes queries state after held left now new s → AreSummed queries (front ++ file ∷ []) old new after
+    → AreSummed queries front old now state → file ≡ file_of s → TakesSession queries state after held left now new s → AreSummed queries (front ++ file ∷ []) old new after
 summed_more queries front file old now new state after held left s t spelled x = record {
   sessions = t.sessions ++ s ∷ [];
   passed = file_passed queries front file old now new t.sessions t.passed s x.session spelled (x.passes t.sessions t.sums) x.log;
@@ -153,7 +154,7 @@ summed_more queries front file old now new state after held left s t spelled x =
 
 module _ (queries : Queries) (files : List (List ℕ)) (k : ℕ) (file : List ℕ) (here : slice_get files k ≡ Some file) (old now new : List Key)
     (state : Result Sum AuditFault) (t : AreSummed queries (take k files) old now state) where
-  pub summed_next : (after : Result Sum AuditFault) (held left : List ℕ → Type 0) (s : SessionValue) → held file → Takes queries state after held left now new s → AreSummed queries (take (k + 1) files) old new after
+  pub summed_next : (after : Result Sum AuditFault) (held left : List ℕ → Type 0) (s : SessionValue) → held file → TakesSession queries state after held left now new s → AreSummed queries (take (k + 1) files) old new after
   summed_next after held left s holds x = subst (λ (fs : List (List ℕ)). AreSummed queries fs old new after) (sym (take_there files k file here))
       (summed_more queries (take k files) file old now new state after held left s t (x.whole file holds) x)
 
@@ -167,7 +168,7 @@ summed_all queries files k le old new state t = subst (λ (fs : List (List ℕ))
 -- ---- what an audit answers
 
 module _ (queries : Queries) (laws : AreLawful queries) (files : List (List ℕ)) (old new : List Key) (state : Result Sum AuditFault) (t : AreSummed queries files old new state) where
-  accepted_over : (a : Audited) → Ends queries t.sessions a → (p : Project) → AreSources (last_entry t.sessions) p → IsAccepted queries files old new a.profile p (arc_value a.answer) a.sessions a.runs
+  accepted_over : (a : Audited) → EndAccepts queries t.sessions a → (p : Project) → AreSources (last_entry t.sessions) p → IsAccepted queries files old new a.profile p (arc_value a.answer) a.sessions a.runs
   accepted_over a e p sources = record {
     sessions = t.sessions;
     passed = record { spelled = t.passed.spelled; each = t.passed.each; passed = t.passed.passed; log = t.passed.log; many = e.runs };
@@ -202,7 +203,7 @@ module _ (queries : Queries) (laws : AreLawful queries) (files : List (List ℕ)
   audit_accepts (Ok a) e = (e.sources.0, accepted_over a e e.sources.0 e.sources.1)
   audit_accepts (Err fault) e = tt
 
-  module _ (a : Audited) (e : Ends queries t.sessions a) (p : Project) (sources : AreSources (last_entry t.sessions) p) (ss : List SessionValue) (f : HaveFiles ss files) where
+  module _ (a : Audited) (e : EndAccepts queries t.sessions a) (p : Project) (sources : AreSources (last_entry t.sessions) p) (ss : List SessionValue) (f : HaveFiles ss files) where
     last_over : IsLastProfile ss a.profile
     last_over = last_accepted queries files old new a.profile p (arc_value a.answer) a.sessions a.runs (accepted_over a e p sources) ss f
 

@@ -13,7 +13,7 @@ use Rattle.sessions.specs.Sessions.{Entry, SessionValue, IsSession, AreTaken, en
 use Rattle.sessions.specs.Spelling.{file_of}
 use Rattle.graph_rules.specs.Pasts.{Past}
 use Rattle.graph_rules.specs.Next.{AreSources, IsRightAfter}
-use Rattle.audit_graph.specs.Chains.{IsChain}
+use Rattle.audit_graph.specs.Chains.{IsSessionChain}
 use Rattle.audit_graph.specs.declared.fault.AuditFault.{AuditFault}
 use Rattle.audit_graph.specs.declared.fault.AuditFault.TheVariants.{EmptyChain, NoAnswer, SourcesDiffer}
 use Rattle.audit_replay.specs.Logs.{all_executed_keys}
@@ -97,7 +97,7 @@ pub record IsAccepted (queries : Queries) (files : List (List ℕ))
   pub sessions : List SessionValue
   pub passed : ArePassedFiles queries files old new sessions runs
   pub many : count ≡ length sessions
-  pub chain : IsChain sessions
+  pub chain : IsSessionChain sessions
   pub last_is : IsLastProfile sessions profile
   pub sources : AreSources (last_entry sessions) project
   pub held : HasValue (last_entry sessions) Answer answer

@@ -11,8 +11,8 @@ use Rattle.graph_rules.specs.Pasts.{Past}
 use Rattle.audit_graph.specs.Replays.{IsHeld, FollowsFromEdges, AreReplayed, is_before}
 use Rattle.audit_graph.specs.declared.fault.AuditFault.{AuditFault}
 use Rattle.audit_graph.specs.declared.fault.AuditFault.TheVariants as faults
-use Rattle.audit_replay.specs.declared.mismatch.Mismatch.{Mismatch}
-use Rattle.audit_replay.specs.declared.mismatch.Mismatch.TheVariants.{OtherRead, UnreadEdges, OtherResult, OutOfMemory}
+use Rattle.audit_replay.specs.declared.replay.mismatch.Mismatch.{Mismatch}
+use Rattle.audit_replay.specs.declared.replay.mismatch.Mismatch.TheVariants.{OtherRead, UnreadEdges, OtherResult, OutOfMemory}
 
 -- the first i edges, with the values that the session holds
 pub record AreFirstEdges (now : Past) (r : Entry) (i : ℕ) (told : List ReadValue) : Type 0 where

@@ -5,9 +5,8 @@ use Rattle.std.specs.List.{AllByRecursion}
 use Rattle.std.specs.declared.alloc.Global.{Global}
 use Rattle.std.specs.declared.sync.Arc.{Arc}
 use Rattle.item_ids.specs.declared.key.Key.{Key}
-use Rattle.item_ids.specs.declared.key.Key.TheVariants.{Files, Source, Answer}
+use Rattle.item_ids.specs.declared.key.Key.TheVariants.{Source, Answer}
 use Rattle.result_bytes.specs.declared.value.Value.{Value}
-use Rattle.result_bytes.specs.declared.value.Value.TheVariants as values
 use Rattle.recorder.specs.Projects.{Project}
 use Rattle.recorder.specs.Backed.{Queries}
 use Rattle.sessions.specs.Sessions.{SessionValue, IsSession, entry_at}
@@ -17,7 +16,7 @@ use Rattle.session_file.specs.declared.fault.FileFault.{FileFault}
 use Rattle.session_file.specs.declared.fault.FileFault.TheVariants as files
 use Rattle.graph_rules.specs.Pasts.{Past}
 use Rattle.graph_rules.specs.Next.{AreSources}
-use Rattle.audit_graph.specs.Sources.{HasSources}
+use Rattle.audit_graph.specs.Sources.{HasFiles, HasSources}
 use Rattle.audit_graph.specs.declared.fault.AuditFault.{AuditFault}
 use Rattle.audit_graph.specs.declared.fault.AuditFault.TheVariants.{EmptyChain, File, NoAnswer, SourcesDiffer, OutOfMemory}
 use Rattle.audit_replay.specs.Logs.{executed_keys, all_executed_keys}
@@ -25,7 +24,7 @@ use Rattle.audit_replay.specs.Passes.{Passes, FileRefuses, ReadRefuses}
 use Rattle.audit_replay.specs.Audits.{AreApart, ArePassedFiles, IsLastProfile, HasValue, last_of, last_entry}
 use Rattle.audit_replay.specs.RightChains.{AreRightInChain}
 use Rattle.audit_replay.specs.declared.chain.Audited.{Audited}
-use Rattle.audit_replay.specs.declared.sum.Last.{Last}
+use Rattle.audit_replay.specs.declared.sum.LastSession.{LastSession}
 use Rattle.audit_replay.specs.declared.sum.Sum.{Sum}
 
 -- ---- what is kept
@@ -36,30 +35,27 @@ AreTexts now [] [] = Unit {0}
 AreTexts now (n ∷ ns) (v ∷ vs) = HasValue now (Source n) v × AreTexts now ns vs
 AreTexts now _ _ = ⊥
 
--- the values that a session holds for its inputs
-pub record AreInputs (now : Past) (names : Value) (texts : List Value) : Type 0 where
-  pub files : List (List ℕ)
-  pub named : names ≡ values.Files files
-  pub held : HasValue now Files names
-  pub each : AreTexts now files texts
+-- the same, for the names that the session holds
+abbrev pub AreTextsIn : Past → List Value → Type 0
+AreTextsIn now texts = (names : List (List ℕ)) → HasFiles now names → AreTexts now names texts
 
 -- the value that a session holds for its answer, where it has one
 abbrev pub IsAnswer : SessionValue → Option (Arc Value Global) → Type 0
 IsAnswer s answer = MatchOption answer (entry_at s Answer ≡ None)
     (λ a. HasValue (entry_at s) Answer (arc_value a))
 
--- the session, which holds the files of a project, is kept, with its inputs and its answer
-pub record IsLastOf (kept : Last) (s : SessionValue) : Type 0 where
+-- the session, which holds the files of a project, is kept, with the values of their sources and its
+-- answer
+pub record KeepsSession (kept : LastSession) (s : SessionValue) : Type 0 where
   pub session : kept.session ≡ s
   pub sources : HasSources (entry_at s)
-  pub inputs : AreInputs (entry_at s) (arc_value kept.inputs.names)
-      (map arc_value kept.inputs.texts.items)
+  pub texts : AreTextsIn (entry_at s) (map arc_value kept.texts.items)
   pub answer : IsAnswer s kept.answer
 
-abbrev pub IsLast : Option Last → Option SessionValue → Type 0
-IsLast None None = Unit {0}
-IsLast (Some kept) (Some s) = IsLastOf kept s
-IsLast _ _ = ⊥
+abbrev pub KeepsLast : Option LastSession → Option SessionValue → Type 0
+KeepsLast None None = Unit {0}
+KeepsLast (Some kept) (Some s) = KeepsSession kept s
+KeepsLast _ _ = ⊥
 
 -- What is kept is the sum of the sessions: how many they are, and how many executed records they
 -- have, and what is kept of the last one.
@@ -67,7 +63,7 @@ pub record IsSumOf (kept : Sum) (sessions : List SessionValue) : Type 0 where
   pub each : AllByRecursion IsSession sessions
   pub count : kept.count ≡ length sessions
   pub runs : kept.runs ≡ length (all_executed_keys sessions)
-  pub last : IsLast kept.last (last_of None sessions)
+  pub last : KeepsLast kept.last (last_of None sessions)
 
 -- an auditor that has refused sums nothing
 abbrev pub Sums : Result Sum AuditFault → List SessionValue → Type 0
@@ -79,7 +75,7 @@ Sums (Err fault) sessions = ⊥
 -- The file of session s was taken, whole, which passes behind all sessions summed before. They and
 -- it are summed now, and are a chain of right sessions where they were one, unless two different
 -- results in them share a fingerprint. Just its executed records were run, in order.
-pub record Takes (queries : Queries) (old new : Result Sum AuditFault)
+pub record TakesSession (queries : Queries) (old new : Result Sum AuditFault)
     (held left : List ℕ → Type 0) (log_old log_new : List Key) (s : SessionValue) : Type 0 where
   pub session : IsSession s
   pub given : Given held left (file_of s)
@@ -131,7 +127,7 @@ EndsFeed old new (Err e) = Unit {0}
 -- The last of the sessions is of this profile and has this answer, and there are this many
 -- sessions, with this many executed records. Where they are a chain of right sessions, it is what
 -- the last one's files mean by it in the profile.
-pub record Ends (queries : Queries) (ss : List SessionValue)
+pub record EndAccepts (queries : Queries) (ss : List SessionValue)
     (a : Audited) : Type 0 where
   pub some : ss ≢ []
   pub sessions : a.sessions ≡ length ss
@@ -156,12 +152,12 @@ EndRefusesAgainst ss p fault = EndRefuses ss fault
 
 abbrev pub EndGives
     : Queries → List SessionValue → Result Audited AuditFault → Type 0
-EndGives queries ss (Ok a) = Ends queries ss a
+EndGives queries ss (Ok a) = EndAccepts queries ss a
 EndGives queries ss (Err fault) = EndRefuses ss fault
 
 abbrev pub EndGivesAgainst
     : Queries → List SessionValue → Project → Result Audited AuditFault → Type 0
-EndGivesAgainst queries ss p (Ok a) = Ends queries ss a × AreSources (last_entry ss) p
+EndGivesAgainst queries ss p (Ok a) = EndAccepts queries ss a × AreSources (last_entry ss) p
 EndGivesAgainst queries ss p (Err fault) = EndRefusesAgainst ss p fault
 
 -- ---- files one after the other

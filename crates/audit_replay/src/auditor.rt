@@ -6,12 +6,12 @@ ghost use Rattle.graph_rules.specs.Next.{AreSources};
 ghost use Rattle.audit_graph.specs.declared.fault.AuditFault.{AuditFault as Fault};
 ghost use Rattle.audit_replay.specs.Audits.{last_entry, last_of};
 ghost use Rattle.audit_replay.specs.Logs.{RunsPart};
-ghost use Rattle.audit_replay.specs.Sums.{CountsTake, EndGives, EndGivesAgainst, IsSumOf, Sums, TakeRefuses, Takes};
+ghost use Rattle.audit_replay.specs.Sums.{CountsTake, EndGives, EndGivesAgainst, IsSumOf, Sums, TakeRefuses, TakesSession};
 
 use crate::chain::Audited;
 use crate::reading::read_file;
 use crate::session::audit_session;
-use crate::sum::{Last, Sum};
+use crate::sum::{LastSession, Sum};
 use audit_graph::AuditFault;
 use devices::Feed;
 use mj_project::Project;
@@ -52,7 +52,7 @@ impl<R: Runner> Auditor<R> {
         feed: &mut F,
     ) -> Result<(), AuditFault>
         // A session was taken.
-        ensures taken { OnOk result ((s : SessionValue) × Takes R.queries self.old.state
+        ensures taken { OnOk result ((s : SessionValue) × TakesSession R.queries self.old.state
             self.new.state (F.holds feed.old) (F.holds feed.new) (R.log runner.old)
             (R.log runner.new) s) }
         // Why it is refused after the sessions taken before, by the bytes that the feed held, if it tells them.
@@ -142,7 +142,7 @@ fn take_session<R: Runner, F: Feed>(
     kept: &Sum,
     feed: &mut F,
 ) -> Result<Sum, AuditFault>
-    ensures taken { IfOk result (λ next. (s : SessionValue) × Takes R.queries (Ok kept.now)
+    ensures taken { IfOk result (λ next. (s : SessionValue) × TakesSession R.queries (Ok kept.now)
         (Ok next) (F.holds feed.old) (F.holds feed.new) (R.log runner.old) (R.log runner.new) s) }
     ensures refused { IfErr result (λ fault. (ss : List SessionValue) (bytes : List ℕ)
         → IsSumOf kept.now ss → F.holds feed.old bytes
@@ -159,7 +159,7 @@ fn take_session<R: Runner, F: Feed>(
         Ok(runs) => runs,
         Err(fault) => return Err(fault),
     };
-    match Last::of(alloc, session) {
+    match LastSession::of(alloc, session) {
         Ok(last) => Ok(Sum {
             count: kept.count + 1,
             runs: kept.runs.saturating_add(runs as u128),
@@ -195,7 +195,7 @@ fn has_files(kept: &Sum, project: &Project) -> bool
         → IsTrue result ↔ AreSources (last_entry ss) project.now }
 {
     match &kept.last {
-        Some(last) => last.inputs().are_of(project),
+        Some(last) => last.has_files_of(project),
         None => false,
     }
 }

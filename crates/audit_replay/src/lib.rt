@@ -3,17 +3,11 @@
 #![tactic(auto)]
 
 mod against;
-mod answer;
 mod auditor;
 mod chain;
-mod compare;
-mod inputs;
 mod laws;
-mod mismatch;
-mod plan;
 mod reading;
-mod rerun;
-mod script;
+mod replay;
 mod session;
 mod sum;
 

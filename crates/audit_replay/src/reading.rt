@@ -3,7 +3,7 @@ ghost use Rattle.std.specs.Prelude.{◌≡◌, ℕ, List, IfOk, IfErr};
 ghost use Rattle.std.specs.Option.{option_copied};
 ghost use Rattle.sessions.specs.Sessions.{IsSession, IsTakenFrom};
 ghost use Rattle.sessions.specs.Spelling.{file_of};
-ghost use Rattle.devices.specs.Devices.{Counts};
+ghost use Rattle.devices.specs.Devices.{CountsFailures};
 ghost use Rattle.session_file.specs.Feeding.{Given};
 ghost use Rattle.audit_replay.specs.Sums.{CountsTake, EndsFeed, ReadFails, file_fault};
 
@@ -52,7 +52,7 @@ fn fault_of_file(k: usize, fault: FileFault) -> AuditFault
 /// Whether the feed gives no more bytes.
 fn is_at_end<F: Feed>(feed: &mut F) -> Result<bool, DeviceFault>
     ensures ends { EndsFeed (F.holds feed.old) (F.holds feed.new) result }
-    ensures counted { Counts result (F.failed feed.old) (F.failed feed.new) }
+    ensures counted { CountsFailures result (F.failed feed.old) (F.failed feed.new) }
 {
     let mut room = [0; 1];
     match feed.take(&mut room) {

@@ -8,7 +8,7 @@ ghost use Rattle.audit_graph.specs.Steps.{CheckStepGives};
 ghost use Rattle.audit_replay.specs.Logs.{LogGives, executed_keys};
 ghost use Rattle.audit_replay.specs.Passes.{SessionGives};
 
-use crate::plan::run_plan;
+use crate::replay::plan::run_plan;
 use audit_graph::{AuditFault, Past, Plan, check_step};
 use recorder::Runner;
 use sessions::Session;

@@ -1,13 +1,20 @@
 //! What is kept of the sessions that were audited.
-ghost use Rattle.std.specs.Prelude.{◌≡◌, None, Some, IfOk, option_map};
+ghost use Rattle.std.specs.Prelude.{◌≡◌, ◌↔◌, None, Some, IfOk, IsTrue, map, option_map};
+ghost use Rattle.std.specs.Arc.{arc_value};
 ghost use Rattle.std.specs.Option.{option_copied};
 ghost use Rattle.sessions.specs.Sessions.{entry_at};
 ghost use Rattle.audit_graph.specs.Sources.{HasSources};
-ghost use Rattle.audit_replay.specs.Sums.{IsAnswer, IsLastOf};
+ghost use Rattle.mj_project.specs.Projects.{IsProject};
+ghost use Rattle.audit_replay.specs.Projects.{HasFilesAlike};
+ghost use Rattle.audit_replay.specs.Sums.{IsAnswer, KeepsSession};
 
-use crate::answer::answer_of;
-use crate::inputs::Inputs;
+pub(crate) mod answer;
+pub(crate) mod files;
+
+use crate::sum::answer::answer_of;
+use crate::sum::files::{are_files_of, texts_in};
 use fingerprint::Sealed;
+use mj_project::Project;
 use profiles::Profile;
 use sessions::Session;
 use std::alloc::{AllocError, Global};
@@ -18,14 +25,14 @@ use std::sync::Arc;
 pub(crate) struct Sum {
     pub(crate) count: usize,
     pub(crate) runs: u128,
-    pub(crate) last: Option<Last>,
+    pub(crate) last: Option<LastSession>,
 }
 
-/// A session, with its inputs and its answer.
+/// A session, with the results of its sources, in the order of its files, and its answer.
 #[derive(Drop)]
-pub(crate) struct Last {
+pub(crate) struct LastSession {
     session: Session,
-    inputs: Inputs,
+    texts: Vec<Arc<Sealed>>,
     answer: Option<Arc<Sealed>>,
 }
 
@@ -41,17 +48,17 @@ impl Sum {
     }
 }
 
-impl Last {
+impl LastSession {
     /// What is kept of a session that holds the files of a project.
     pub(crate) fn of(alloc: Global, session: Session) -> Result<Self, AllocError>
         requires { HasSources (entry_at session) }
-        ensures { IfOk result (λ last. IsLastOf last session) }
+        ensures { IfOk result (λ last. KeepsSession last session) }
     {
         let answer = shared_answer(&session)?;
-        let inputs = Inputs::of(alloc, &session)?;
-        Ok(Last {
+        let texts = texts_in(alloc, &session)?;
+        Ok(LastSession {
             session,
-            inputs,
+            texts,
             answer,
         })
     }
@@ -63,18 +70,20 @@ impl Last {
         self.session.terms().profile
     }
 
-    /// Its inputs.
-    pub(crate) fn inputs(&self) -> &Inputs
-        ensures { result.now ≡ self.now.inputs }
+    /// Whether its files are those of the project.
+    pub(crate) fn has_files_of(&self, project: &Project) -> bool
+        ensures same { IsTrue result ↔ HasFilesAlike (entry_at self.now.session)
+            (map arc_value self.now.texts.items) project.now }
+        ensures project { IsProject project.now }
     {
-        &self.inputs
+        are_files_of(&self.session, self.texts.as_slice(), project)
     }
 
     /// Its answer.
     pub(crate) fn into_answer(self) -> Option<Arc<Sealed>>
         ensures { result ≡ self.answer }
     {
-        let Last { answer, .. } = self;
+        let LastSession { answer, .. } = self;
         answer
     }
 }

@@ -4,7 +4,7 @@ use crate::files::Turned;
 use crate::said::{
     Said, is_accepted_with, said_of_none, said_of_one, said_of_second, said_of_two, said_of_two_as,
 };
-use answer_fixtures::Asked;
+use answer_fixtures::KeyParts;
 use audit_graph::AuditFault;
 use item_ids::Kind;
 use profiles::Profile;
@@ -12,11 +12,11 @@ use session_fixtures::Kept;
 use sessions::{Form, Mark, Terms};
 use std::test::*;
 
-const HEADER: Asked<'static> = Asked(Kind::Header, "a", "");
+const HEADER: KeyParts<'static> = KeyParts(Kind::Header, "a", "");
 
-const CHECK: Asked<'static> = Asked(Kind::CheckClass, "a", "");
+const CHECK: KeyParts<'static> = KeyParts(Kind::CheckClass, "a", "");
 
-const ANSWER: Asked<'static> = Asked(Kind::Answer, "", "");
+const ANSWER: KeyParts<'static> = KeyParts(Kind::Answer, "", "");
 
 const NO_FIELDS: &str = "0401000000000000000000000000000000000000";
 
@@ -25,6 +25,22 @@ const NO_HEADER: &str = "0400";
 const NO_FAULTS: &str = "090000000000000000";
 
 const NO_CLASSES: &str = "0c00000000000000000000000000000000";
+
+/// The answer of no class, executed.
+const ANSWERED: Kept = Kept {
+    key: ANSWER,
+    mark: Mark::Executed,
+    edges: &[],
+    digits: NO_CLASSES,
+};
+
+/// The check of the class, green.
+const GREEN_CHECK: Kept = Kept {
+    key: CHECK,
+    mark: Mark::Green,
+    edges: &[0, 2],
+    digits: NO_FAULTS,
+};
 
 /// A first session, and what is said of it.
 struct Row {
@@ -45,7 +61,7 @@ const STRAYS: &[Row] = &[
         turned: Turned {
             front: 1,
             others: &[Kept {
-                key: Asked(Kind::Source, "a", ""),
+                key: KeyParts(Kind::Source, "a", ""),
                 mark: Mark::Input,
                 edges: &[],
                 digits: "0100",
@@ -57,7 +73,7 @@ const STRAYS: &[Row] = &[
         turned: Turned {
             front: 2,
             others: &[Kept {
-                key: Asked(Kind::Source, "z", ""),
+                key: KeyParts(Kind::Source, "z", ""),
                 mark: Mark::Input,
                 edges: &[],
                 digits: "0100",
@@ -94,12 +110,7 @@ const ONES: &[Row] = &[
                     edges: &[2, 0],
                     digits: NO_FAULTS,
                 },
-                Kept {
-                    key: ANSWER,
-                    mark: Mark::Executed,
-                    edges: &[],
-                    digits: NO_CLASSES,
-                },
+                ANSWERED,
             ],
         },
         said: Said::Refused(AuditFault::OtherRead(0, 3, 0)),
@@ -114,12 +125,7 @@ const ONES: &[Row] = &[
                     edges: &[0],
                     digits: NO_FAULTS,
                 },
-                Kept {
-                    key: ANSWER,
-                    mark: Mark::Executed,
-                    edges: &[],
-                    digits: NO_CLASSES,
-                },
+                ANSWERED,
             ],
         },
         said: Said::Refused(AuditFault::OtherRead(0, 3, 1)),
@@ -152,12 +158,7 @@ const ONES: &[Row] = &[
                     edges: &[0, 2],
                     digits: NO_FAULTS,
                 },
-                Kept {
-                    key: ANSWER,
-                    mark: Mark::Executed,
-                    edges: &[],
-                    digits: NO_CLASSES,
-                },
+                ANSWERED,
             ],
         },
         said: Said::Refused(AuditFault::OtherResult(0, 2)),
@@ -165,20 +166,7 @@ const ONES: &[Row] = &[
     Row {
         turned: Turned {
             front: 3,
-            others: &[
-                Kept {
-                    key: CHECK,
-                    mark: Mark::Green,
-                    edges: &[0, 2],
-                    digits: NO_FAULTS,
-                },
-                Kept {
-                    key: ANSWER,
-                    mark: Mark::Executed,
-                    edges: &[],
-                    digits: NO_CLASSES,
-                },
-            ],
+            others: &[GREEN_CHECK, ANSWERED],
         },
         said: Said::Refused(AuditFault::GreenWithoutPast(0, 3)),
     },
@@ -214,12 +202,7 @@ const UNCHANGED: &Turned = &Turned {
             edges: &[1],
             digits: NO_FIELDS,
         },
-        Kept {
-            key: CHECK,
-            mark: Mark::Green,
-            edges: &[0, 2],
-            digits: NO_FAULTS,
-        },
+        GREEN_CHECK,
         Kept {
             key: ANSWER,
             mark: Mark::Green,

@@ -1,11 +1,10 @@
 //! Sessions of a project of one file `a`, which has the one byte `A`, and their files.
 
-use answer_fixtures::{Asked, Unfit};
+use answer_fixtures::{KeyParts, Unfit};
 use devices::MemorySink;
 use item_ids::Kind;
-use session_file::write;
-use session_fixtures::{Kept, digest_of, file_of, session_as};
-use sessions::{Mark, Session, Terms};
+use session_fixtures::{Kept, digest_of, file_of, file_of_session, session_as};
+use sessions::{Mark, Terms};
 use std::alloc::{AllocError, Global};
 
 /// So many records of the first session, from its first one, and others behind them. The records of a whole session
@@ -18,31 +17,31 @@ pub(crate) struct Turned {
 // Every key has what it means, and reads what it reads.
 const FIRST: &[Kept] = &[
     Kept {
-        key: Asked(Kind::Files, "", ""),
+        key: KeyParts(Kind::Files, "", ""),
         mark: Mark::Input,
         edges: &[],
         digits: "0000000000000000010161",
     },
     Kept {
-        key: Asked(Kind::Source, "a", ""),
+        key: KeyParts(Kind::Source, "a", ""),
         mark: Mark::Input,
         edges: &[],
         digits: "0101000000000000000141",
     },
     Kept {
-        key: Asked(Kind::Header, "a", ""),
+        key: KeyParts(Kind::Header, "a", ""),
         mark: Mark::Executed,
         edges: &[1],
         digits: "0401000000000000000000000000000000000000",
     },
     Kept {
-        key: Asked(Kind::CheckClass, "a", ""),
+        key: KeyParts(Kind::CheckClass, "a", ""),
         mark: Mark::Executed,
         edges: &[0, 2],
         digits: "090000000000000000",
     },
     Kept {
-        key: Asked(Kind::Answer, "", ""),
+        key: KeyParts(Kind::Answer, "", ""),
         mark: Mark::Executed,
         edges: &[],
         digits: "0c00000000000000000000000000000000",
@@ -94,13 +93,5 @@ fn file_with_link(
     records: &[Kept],
 ) -> Result<MemorySink, Unfit> {
     let session = session_as(alloc, terms, 1, link, records)?;
-    written(alloc, &session)
-}
-
-fn written(alloc: Global, session: &Session) -> Result<MemorySink, Unfit> {
-    let mut sink = MemorySink::new(alloc);
-    match write(session, &mut sink) {
-        Ok(()) => Ok(sink),
-        Err(_) => Err(Unfit),
-    }
+    file_of_session(alloc, &session)
 }

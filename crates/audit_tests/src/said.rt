@@ -1,7 +1,7 @@
 //! What an audit says of files.
 
 use crate::files::{Turned, file_behind, file_of_first};
-use answer_fixtures::{Asked, is_key, sealed_of};
+use answer_fixtures::{KeyParts, is_key, sealed_of};
 use audit_graph::AuditFault;
 use audit_replay::{Audited, audit};
 use item_ids::{Key, Kind};
@@ -80,7 +80,7 @@ pub(crate) fn is_accepted_with(
     alloc: Global,
     first: &Turned,
     digits: &str,
-    runs: &[Asked<'static>],
+    runs: &[KeyParts<'static>],
 ) -> bool {
     match file_of_first(alloc, first) {
         Ok(file) => is_file_accepted(alloc, file.bytes(), digits, runs),
@@ -88,7 +88,7 @@ pub(crate) fn is_accepted_with(
     }
 }
 
-fn is_file_accepted(alloc: Global, file: &[u8], digits: &str, runs: &[Asked<'static>]) -> bool {
+fn is_file_accepted(alloc: Global, file: &[u8], digits: &str, runs: &[KeyParts<'static>]) -> bool {
     let mut runner = SampleRunner::new(alloc);
     let is_told = is_answer(alloc, audit(alloc, &mut runner, &[file]), digits);
     is_told && are_keys(runner.log(), runs)
@@ -108,7 +108,7 @@ fn has_answer(alloc: Global, audited: &Audited, digits: &str) -> bool {
     }
 }
 
-fn are_keys(keys: &[Key], want: &[Asked<'static>]) -> bool {
+fn are_keys(keys: &[Key], want: &[KeyParts<'static>]) -> bool {
     if keys.len() != want.len() {
         return false;
     }

@@ -2,7 +2,7 @@
 //! queries the check of a class alone goes by the profile.
 
 use crate::said::{Said, told};
-use answer_fixtures::{Asked, Unfit};
+use answer_fixtures::{KeyParts, Unfit};
 use audit_graph::AuditFault;
 use audit_replay::{Audited, audit};
 use devices::MemorySink;
@@ -84,7 +84,7 @@ const ROWS: &[Row] = &[
 
 /// How a record of the first session is marked in the second.
 fn mark_again(one: &Kept, checked: bool) -> Mark {
-    let Asked(kind, _, _) = one.key;
+    let KeyParts(kind, _, _) = one.key;
     match one.mark {
         Mark::Input => Mark::Input,
         Mark::Executed | Mark::Green => {

@@ -20,7 +20,9 @@ use Rattle.recorder.specs.Programs.{Prog, Ret, runs, asks}
 use Rattle.recorder.specs.Backed.{is_seen}
 use Rattle.query_rules.specs.BodyReads.{type_reads, types_reads}
 use Rattle.query_rules.specs.Reads.{first_keys}
-use Rattle.body_questions.specs.Facts.{is_declared_in, descends_in, field_in, method_in}
+use Rattle.mj_typing.proofs.Checks.{add_each-append}
+use Rattle.body_questions.specs.Classes.{is_declared_in, descends_in}
+use Rattle.body_questions.specs.Members.{field_in, method_in}
 use Rattle.body_query.specs.Programs.{reads_of}
 
 -- what the answers of a meaning say
@@ -124,10 +126,6 @@ module _ (w : World) where
   joined : (xs ys zs ws : List Key) → ys ≡ zs ++ ws → xs ++ ys ≡ (xs ++ zs) ++ ws
   joined xs ys zs ws e = ap (λ l. xs ++ l) e ∙ sym (append_assoc xs zs ws)
 
-  add-append : (mistakes : List Mistake) (ps qs : List Phrase) → add_each w mistakes (ps ++ qs) ≡ add_each w (add_each w mistakes ps) qs
-  add-append mistakes [] qs = refl
-  add-append mistakes (p ∷ ps) qs = add-append (add_faults w mistakes p) ps qs
-
   mutual
     unfolding statement_step statements_step
 
@@ -143,7 +141,7 @@ module _ (w : World) where
         ∙ joined (phrase_reads w own) _ (each_reads w (statement_phrases s a ++ statement_phrases s b)) _
         (statement_asked s a (add_faults w mistakes own) (λ others. statement_step s b others k)
         ∙ joined (each_reads w (statement_phrases s a)) _ (each_reads w (statement_phrases s b)) _ (statement_asked s b ms k)
-        ∙ ap₂ (λ ks more. ks ++ asked_in w (k more)) (sym (each_reads-append (statement_phrases s a) (statement_phrases s b))) (sym (add-append (add_faults w mistakes own) (statement_phrases s a) (statement_phrases s b))))
+        ∙ ap₂ (λ ks more. ks ++ asked_in w (k more)) (sym (each_reads-append (statement_phrases s a) (statement_phrases s b))) (sym (add_each-append w (add_faults w mistakes own) (statement_phrases s a) (statement_phrases s b))))
     statement_asked s (While mark e a) mistakes k =
         let own = own_phrase s (While mark e a) in
         phrase_asked own mistakes (λ found. statement_step s a found.mistakes k)
@@ -157,7 +155,7 @@ module _ (w : World) where
     statements_asked s (next a ss) mistakes k =
         statement_asked s a mistakes (λ more. statements_step s ss more k)
         ∙ joined (each_reads w (statement_phrases s a)) _ (each_reads w (statements_phrases s ss)) _ (statements_asked s ss (add_each w mistakes (statement_phrases s a)) k)
-        ∙ ap₂ (λ ks more. ks ++ asked_in w (k more)) (sym (each_reads-append (statement_phrases s a) (statements_phrases s ss))) (sym (add-append mistakes (statement_phrases s a) (statements_phrases s ss)))
+        ∙ ap₂ (λ ks more. ks ++ asked_in w (k more)) (sym (each_reads-append (statement_phrases s a) (statements_phrases s ss))) (sym (add_each-append w mistakes (statement_phrases s a) (statements_phrases s ss)))
 
   type_asked : (mark : ℕ) (t : Ty) (mistakes : List Mistake) (k : List Mistake → Check) → asked_in w (type_step mark t mistakes k) ≡ type_reads t ++ asked_in w (k (add_undeclared w mistakes mark t))
   type_asked mark types.Int mistakes k = refl

@@ -9,6 +9,7 @@ use Rattle.mj_parser.specs.MarkBounds.{StmtMarksBelow, MethodMarksBelow, ClassMa
 use Rattle.mj_members.specs.Declarations.{ClassDecl}
 use Rattle.mj_classes.specs.Declarations.{number_classes, main_first, classes_of, declared_from, decl}
 use Rattle.mj_classes.specs.Members.{own_method}
+use Rattle.mj_classes.proofs.Tables.{all_append}
 use Rattle.mj_answer.proofs.Alike.{Contains-first, Contains-later}
 use Rattle.mj_phrases.specs.declared.verdict.Mistake.{Mistake}
 use Rattle.mj_phrases.specs.Inquiries.{World}
@@ -21,7 +22,6 @@ use Rattle.tree_bytes.specs.Bodies.{OfMain, OfMethod}
 use Rattle.recorder.specs.Projects.{Project}
 use Rattle.recorder.proofs.Recorded.{all_at}
 use Rattle.query_rules.specs.Items.{class_at, body_by, own_body, body_at, mistakes_in}
-use Rattle.query_rules.proofs.Firsts.{all_append}
 use Rattle.body_query.proofs.Marks.{method_small, main_small}
 
 nowhere : (x : Method) → Contains [] x → ⊥

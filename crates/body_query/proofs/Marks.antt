@@ -18,14 +18,14 @@ use Rattle.mj_phrases.specs.Variables.{variables_of, name_mark, has_name, add_re
 use Rattle.mj_typing.specs.Bodies.{return_type_mark, add_undeclared, add_undeclared_each, method_faults, main_faults}
 use Rattle.mj_answer.specs.declared.code.Code.TheVariants.{E206, E207}
 use Rattle.mj_answer.proofs.Alike.{Contains-first, Contains-later}
-use Rattle.recorder.proofs.Recorded.{all_last}
+use Rattle.item_ids.proofs.Lists.{all_push}
 
 module _ (k n : ℕ) (fits : k ≤ n) where
   abbrev pub Small : List Mistake → Type 0
   Small mistakes = AllByRecursion (λ x. x.mark < n) mistakes
 
   more_small : (ms : List Mistake) (x : Mistake) → Small ms → x.mark < n → Small (ms ++ x ∷ [])
-  more_small ms x h l = all_last (λ x. x.mark < n) ms x h l
+  more_small ms x h l = all_push (λ x. x.mark < n) ms x h l
 
   own_small : (ms : List Mistake) (mark : ℕ) (v : Verdict) → mark < n → Small ms → Small (add_own ms mark v)
   own_small ms mark (Is t) l h = h

@@ -1,14 +1,15 @@
 -- Diagnostics in places of a class, as sets.
-use Rattle.std.proofs.Common.{◌≡◌, List, [], ◌∷◌, Contains}
-use Rattle.std.specs.List.{AllByRecursion}
+use Rattle.std.proofs.Common.{◌≡◌, List, [], ◌∷◌}
 use Rattle.mj_tree.specs.Trees.{Name}
 use Rattle.mj_answer.specs.declared.diagnostic.Diagnostic.{Diagnostic}
 use Rattle.mj_answer.specs.Order.{Before, IsAscending}
-use Rattle.mj_answer.proofs.Alike.{Contains-first, Contains-later, one_list_by}
+use Rattle.mj_answer.proofs.Alike.{one_list_by}
 use Rattle.mj_answer.proofs.Orders.{faults}
 use Rattle.mj_rules.specs.Answering.{set_of, fault_order}
+use Rattle.mj_rules.proofs.Composing.{SameFaults}
 use Rattle.mj_rules.proofs.Sets.{faults_compare, set_ascends, from_set, to_set}
 use Rattle.mj_phrases.specs.declared.verdict.Mistake.{Mistake}
+use Rattle.item_ids.proofs.Lists.{all_from}
 use Rattle.answer_bytes.specs.Storable.{AreClassFaults, IsClassPlace}
 use Rattle.recorder.proofs.Recorded.{all_at}
 use Rattle.query_rules.specs.Items.{fault_set}
@@ -19,18 +20,10 @@ pub in_class : (m : Name) (ms : List Mistake) → AreClassFaults (faults_of_mist
 in_class m [] = tt
 in_class m (x ∷ ms) = (small x.mark, in_class m ms)
 
-all_from : {A : Type 0} (P : A → Type 0) (xs : List A) → ((x : A) → Contains xs x → P x) → AllByRecursion P xs
-all_from P [] h = tt
-all_from P (x ∷ xs) h = (h x (Contains-first x xs), all_from P xs (λ y c. h y (Contains-later x xs y c)))
-
--- the elements of one list are those of another
-abbrev pub Same : List Diagnostic → List Diagnostic → Type 0
-Same xs ys = (d : Diagnostic) → (Contains xs d → Contains ys d) × (Contains ys d → Contains xs d)
-
-pub same_places : (xs ys : List Diagnostic) → Same ys xs → AreClassFaults xs → AreClassFaults ys
+pub same_places : (xs ys : List Diagnostic) → SameFaults ys xs → AreClassFaults xs → AreClassFaults ys
 same_places xs ys same h = all_from (λ d. IsClassPlace d.place) ys (λ d c. all_at (λ d. IsClassPlace d.place) xs d ((same d).0 c) h)
 
-pub same_set : (xs ys : List Diagnostic) → IsAscending ys → Same ys xs → ys ≡ fault_set xs
+pub same_set : (xs ys : List Diagnostic) → IsAscending ys → SameFaults ys xs → ys ≡ fault_set xs
 unfolding fault_set
 same_set xs ys up same =
     one_list_by Diagnostic Diagnostic (λ d. d) Before faults ys (set_of fault_order xs) up (set_ascends fault_order Before faults_compare xs)

@@ -15,7 +15,7 @@ use Rattle.mj_phrases.specs.Inquiries.{Sig, Concludes, AsksDescent, AsksField, A
 use Rattle.mj_phrases.specs.Steps.{Check, Proceeds, Aborts}
 use Rattle.body_questions.specs.Questions.{descends_step, field_step, method_step, declared_step}
 use Rattle.body_query.specs.Programs.{reads_of}
-use Rattle.body_query.specs.Steps.{Comes, Ends, run_fault_of}
+use Rattle.body_query.specs.Steps.{Comes, HasGivenUp, run_fault_of}
 
 -- each question is its step
 pub reads_descends : (c d : Name) (f : Bool → Check) (k : List Mistake → Prog) → reads_of (AsksDescent c d f) k ≡ descends_step c d (λ answer. reads_of (f answer) k)
@@ -39,7 +39,7 @@ module _ {S D : Type 0} (told : List ReadValue) (refused : Option Refused) (at :
   StandsAt s start now = Comes told refused start now (at s)
 
   abbrev pub HaltsAt : S → Check → Stop RunFault → Type 0
-  HaltsAt s start e = Ends told refused start e (at s)
+  HaltsAt s start e = HasGivenUp told refused start e (at s)
 
   -- a question that is asked by a step
   pub goes_by : {X : Type 0} (ask : (X → Check) → Check) (step : (X → Prog) → Prog) → ((f : X → Check) (k : List Mistake → Prog) → reads_of (ask f) k ≡ step (λ x. reads_of (f x) k)) → (old new : S) (x : X) → Goes step (at old) x (at new) → Proceeds StandsAt ask old x new

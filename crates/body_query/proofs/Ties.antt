@@ -4,6 +4,7 @@ use Rattle.item_ids.specs.declared.key.Key.{Key}
 use Rattle.item_ids.specs.declared.key.Key.TheVariants as keys
 use Rattle.item_ids.specs.declared.kind.Kind.TheVariants as kinds
 use Rattle.item_ids.specs.Keys.{kind_of}
+use Rattle.item_ids.specs.Inputs.{rank}
 use Rattle.mj_tree.specs.Trees.{Name}
 use Rattle.mj_tree.specs.declared.place.Place.TheVariants.{Inside}
 use Rattle.mj_phrases.specs.declared.verdict.Mistake.{Mistake}
@@ -20,14 +21,15 @@ use Rattle.result_bytes.specs.declared.value.Value.{Value}
 use Rattle.result_bytes.specs.declared.value.Value.TheVariants as values
 use Rattle.profiles.specs.declared.profile.Profile.{Profile}
 use Rattle.recorder.specs.Projects.{Project}
-use Rattle.recorder.specs.Backed.{rank}
 use Rattle.recorder.specs.Programs.{Prog, Ret, runs, asks, Fits}
 use Rattle.query_rules.specs.Items.{body_at, mistakes_in, fault_set}
 use Rattle.query_rules.specs.BodyReads.{body_reads}
 use Rattle.query_rules.specs.Meaning.{mean}
 use Rattle.query_rules.specs.Reads.{asked_keys, first_keys, reads}
 use Rattle.query_rules.specs.Ties.{Ties}
-use Rattle.body_questions.specs.Facts.{is_declared_in, descends_in, field_in, method_in, body_in}
+use Rattle.result_bytes.specs.Parts.{body_in}
+use Rattle.body_questions.specs.Classes.{is_declared_in, descends_in}
+use Rattle.body_questions.specs.Members.{field_in, method_in}
 use Rattle.body_query.specs.Programs.{reads_of}
 use Rattle.body_query.specs.Body.{fault_of_mistake, faults_of_mistakes, check_of, body_prog}
 use Rattle.body_query.specs.Laws.{BodyTies}

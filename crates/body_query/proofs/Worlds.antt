@@ -19,7 +19,8 @@ use Rattle.profiles.specs.declared.profile.Profile.{Profile}
 use Rattle.recorder.specs.Projects.{Project}
 use Rattle.query_rules.specs.Items.{class_at, header_of, chain_value}
 use Rattle.query_rules.specs.Meaning.{mean}
-use Rattle.body_questions.specs.Facts.{chain_classes, fields_of, methods_of, is_declared_in, descends_in, field_in, method_in}
+use Rattle.body_questions.specs.Classes.{chain_classes, is_declared_in, descends_in}
+use Rattle.body_questions.specs.Members.{table_for, field_in, method_in}
 use Rattle.body_query.proofs.Asked.{world_in}
 use Rattle.body_query.proofs.FieldRows.{type_in-rows}
 
@@ -44,11 +45,11 @@ module _ (cs : List ClassDecl) (c : Name) where
   no_ancestry : decl cs c ≡ None → ancestry cs c ≡ []
   no_ancestry e = ancestry_by cs c None (has_none cs c e)
 
-  fields_told : (o : Option ClassDecl) → decl cs c ≡ o → fields_of (option_map (λ k. table_of cs c) o) ≡ (table_of cs c).fields
+  fields_told : (o : Option ClassDecl) → decl cs c ≡ o → (table_for (option_map (λ k. table_of cs c) o)).fields ≡ (table_of cs c).fields
   fields_told None e = ap (map field_row) (no_fields ∙ ap fields_along (sym (no_ancestry e)))
   fields_told (Some k) e = refl
 
-  methods_told : (o : Option ClassDecl) → decl cs c ≡ o → methods_of (option_map (λ k. table_of cs c) o) ≡ (table_of cs c).methods
+  methods_told : (o : Option ClassDecl) → decl cs c ≡ o → (table_for (option_map (λ k. table_of cs c) o)).methods ≡ (table_of cs c).methods
   methods_told None e = ap (map method_row) (no_methods ∙ ap methods_along (sym (no_ancestry e)))
   methods_told (Some k) e = refl
 

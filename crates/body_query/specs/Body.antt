@@ -11,11 +11,11 @@ use Rattle.mj_phrases.specs.Steps.{Check}
 use Rattle.mj_phrases.specs.Table.{main_scope}
 use Rattle.mj_typing.specs.Bodies.{statement_step, method_check}
 use Rattle.tree_bytes.specs.Bodies.{BodyValue, OfMain, OfMethod}
+use Rattle.result_bytes.specs.Parts.{body_in}
 use Rattle.result_bytes.specs.declared.value.Value.{Value}
 use Rattle.result_bytes.specs.declared.value.Value.TheVariants as values
 use Rattle.recorder.specs.Programs.{Prog, Ret, Ask}
 use Rattle.query_rules.specs.Items.{fault_set}
-use Rattle.body_questions.specs.Facts.{body_in}
 use Rattle.body_query.specs.Bounds.{bound}
 use Rattle.body_query.specs.Programs.{reads_of}
 

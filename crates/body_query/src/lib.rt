@@ -8,4 +8,4 @@ mod reads;
 
 pub use faults::{class_fault_set, note_fault};
 pub use laws::{body_ties, bounds_law};
-pub use query::{body_in, check_body};
+pub use query::check_body;

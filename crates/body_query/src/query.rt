@@ -1,5 +1,5 @@
 //! The query.
-ghost use Rattle.std.specs.Prelude.{◌≡◌, [], None, Some, IfOk, IfErr, option_copied};
+ghost use Rattle.std.specs.Prelude.{◌≡◌, [], None, Some, IfOk, IfErr};
 ghost use Rattle.item_ids.specs.Keys.{kind_of};
 ghost use Rattle.item_ids.specs.declared.kind.Kind.TheVariants as kinds;
 ghost use Rattle.profiles.specs.declared.profile.Profile.{Profile};
@@ -10,30 +10,19 @@ ghost use Rattle.query_rules.specs.Meaning.{mean};
 ghost use Rattle.query_rules.specs.Reads.{reads};
 ghost use Rattle.body_query.specs.Programs.{reads_of};
 ghost use Rattle.body_query.specs.Body.{faults_of_mistakes as faults_told, check_of, body_steps, body_prog};
-ghost use Rattle.body_questions.specs.Facts.{body_in as body_told};
+ghost use Rattle.result_bytes.specs.Parts.{body_in};
 ghost use Rattle.tree_bytes.specs.BodyViews.{body_view};
 
 use crate::faults::{class_fault_set, faults_of_mistakes};
 use crate::reads::{check_main_by_reads, check_method_by_reads};
 use answer_bytes::Faults;
-use body_questions::read;
 use item_ids::Key;
 use mj_lexer::Name;
 use mj_phrases::Mistake;
-use recorder::{Reader, Recorder, RunFault};
+use recorder::{Reader, Recorder, RunFault, read};
 use result_bytes::Value;
 use std::alloc::{AllocError, AllocFailed, Global};
 use tree_bytes::{Body, MainOrMethod};
-
-/// The body in an answer.
-pub fn body_in(value: &Value) -> Option<&Body>
-    ensures { option_copied result ≡ body_told value.now }
-{
-    match value {
-        Value::Method(body) => body.as_ref(),
-        _ => None,
-    }
-}
 
 /// The mistakes in the body in an answer.
 fn check_told<D: Reader>(
@@ -42,13 +31,13 @@ fn check_told<D: Reader>(
     class: &Name,
     value: &Value,
 ) -> Result<Vec<Mistake>, RunFault>
-    ensures ok { IfOk result (λ mistakes. Goes (reads_of (check_of class.now (body_told value.now)))
+    ensures ok { IfOk result (λ mistakes. Goes (reads_of (check_of class.now (body_in value.now)))
         recorder.old mistakes.items recorder.new) }
-    ensures err { IfErr result (λ e. GivesUp (reads_of (check_of class.now (body_told value.now)))
+    ensures err { IfErr result (λ e. GivesUp (reads_of (check_of class.now (body_in value.now)))
         recorder.old e recorder.new) }
     ensures follows { D.follows recorder.old.inner recorder.new.inner }
 {
-    match body_in(value) {
+    match value.body() {
         None => Ok(Vec::new(alloc)),
         Some(body) => check_opened(alloc, recorder, class, body),
     }

@@ -9,9 +9,9 @@ ghost use Rattle.mj_phrases.specs.Table.{main_scope};
 ghost use Rattle.recorder.specs.Programs.{Goes, GivesUp};
 ghost use Rattle.body_query.specs.Programs.{reads_of};
 
-use body_questions::{MethodTypes, ask_declared, ask_descends, ask_field, ask_method};
+use body_questions::{ask_declared, ask_descends, ask_field, ask_method};
 use mj_lexer::Name;
-use mj_phrases::{Asking, Mistake, Stop};
+use mj_phrases::{Asking, MethodTypes, Mistake, Stop};
 use mj_tree::{MethodTree, Stmt, Ty};
 use mj_typing::{check_main_statement, check_method};
 use recorder::{Reader, Recorder, RunFault};
@@ -39,14 +39,14 @@ impl Began for Brand {
 
 /// Asks by reads.
 #[derive(Drop)]
-struct Reads<'a, D: Reader, B: Began> {
+struct AskingByReads<'a, D: Reader, B: Began> {
     recorder: &'a mut Recorder<D>,
     began: PhantomData<B>,
 }
 
-impl<'a, D: Reader, B: Began> Asking for Reads<'a, D, B> {
+impl<'a, D: Reader, B: Began> Asking for AskingByReads<'a, D, B> {
     ghost use Rattle.std.proofs.Common.{◌≡◌, ◌∙◌, refl};
-    ghost use Rattle.body_query.specs.Steps.{Comes, Ends, wants};
+    ghost use Rattle.body_query.specs.Steps.{Comes, HasGivenUp, wants};
 
     type Refusal = RunFault;
 
@@ -54,7 +54,7 @@ impl<'a, D: Reader, B: Began> Asking for Reads<'a, D, B> {
 
     ghost stands = { λ s start now. Comes B.told B.refused start now s.recorder.now };
 
-    ghost halts = { λ s start e. Ends B.told B.refused start e s.recorder.now };
+    ghost halts = { λ s start e. HasGivenUp B.told B.refused start e s.recorder.now };
 
     ghost follows = { λ s t. (t.recorder.ghost_name ≡ s.recorder.ghost_name)
         × D.follows s.recorder.now.inner t.recorder.now.inner };
@@ -116,7 +116,7 @@ impl<'a, D: Reader, B: Began> Asking for Reads<'a, D, B> {
 /// The mistakes in a method of the class, by reads that begin here.
 fn check_through<D: Reader, B: Began>(
     alloc: Global,
-    reads: &mut Reads<'_, D, B>,
+    reads: &mut AskingByReads<'_, D, B>,
     class: &Name,
     method: &MethodTree,
 ) -> Result<Vec<Mistake>, RunFault>
@@ -155,7 +155,7 @@ fn check_method_since<D: Reader, B: Began>(
         recorder.old e recorder.new) }
     ensures follows { D.follows recorder.old.inner recorder.new.inner }
 {
-    let mut reads = Reads::<D, B> {
+    let mut reads = AskingByReads::<D, B> {
         recorder,
         began: PhantomData,
     };
@@ -183,7 +183,7 @@ pub fn check_method_by_reads<D: Reader>(
 /// The mistakes in the statement of main, by reads that begin here.
 fn check_main_through<D: Reader, B: Began>(
     alloc: Global,
-    reads: &mut Reads<'_, D, B>,
+    reads: &mut AskingByReads<'_, D, B>,
     statement: &Stmt,
 ) -> Result<Vec<Mistake>, RunFault>
     requires told { reads.old.recorder.now.told ≡ B.told }
@@ -221,7 +221,7 @@ fn check_main_since<D: Reader, B: Began>(
         (λ mistakes. Concludes mistakes))) recorder.old e recorder.new) }
     ensures follows { D.follows recorder.old.inner recorder.new.inner }
 {
-    let mut reads = Reads::<D, B> {
+    let mut reads = AskingByReads::<D, B> {
         recorder,
         began: PhantomData,
     };

@@ -1,2 +1,3 @@
-pub mod Facts
+pub mod Classes
+pub mod Members
 pub mod Questions

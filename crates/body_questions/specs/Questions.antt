@@ -5,7 +5,8 @@ use Rattle.mj_tree.specs.Trees.{Name}
 use Rattle.mj_tree.specs.declared.tree.Ty.{Ty}
 use Rattle.mj_phrases.specs.Inquiries.{Sig}
 use Rattle.recorder.specs.Programs.{Prog, Ask}
-use Rattle.body_questions.specs.Facts.{is_declared_in, descends_in, field_in, method_in}
+use Rattle.body_questions.specs.Classes.{is_declared_in, descends_in}
+use Rattle.body_questions.specs.Members.{field_in, method_in}
 
 -- the second class stands in the chain of the first
 abbrev pub descends_step : Name → Name → (Bool → Prog) → Prog

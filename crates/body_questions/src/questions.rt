@@ -3,13 +3,13 @@ ghost use Rattle.std.specs.Prelude.{◌≡◌, IfOk, IfErr, option_map};
 ghost use Rattle.recorder.specs.Programs.{Goes, GivesUp};
 ghost use Rattle.body_questions.specs.Questions.{declared_step, descends_step, field_step, method_step};
 
-use crate::facts::{MethodTypes, descends_in, field_in, is_declared_in, method_in};
-use crate::reads::read;
+use crate::classes::{descends_in, is_declared_in};
+use crate::members::{field_in, method_in};
 use item_ids::Key;
 use mj_lexer::Name;
-use mj_phrases::Signature;
+use mj_phrases::{MethodSignature, MethodTypes};
 use mj_tree::Ty;
-use recorder::{Reader, Recorder, RunFault};
+use recorder::{Reader, Recorder, RunFault, read};
 use std::alloc::Global;
 
 /// Whether a class is declared, by its header.
@@ -71,7 +71,7 @@ pub fn ask_method<D: Reader>(
     name: &Name,
 ) -> Result<Option<MethodTypes>, RunFault>
     ensures ok { IfOk result (λ answer. Goes (method_step class.now name.now) recorder.old
-        (option_map ⟦<MethodTypes as Signature>⟧.sig answer) recorder.new) }
+        (option_map ⟦<MethodTypes as MethodSignature>⟧.sig answer) recorder.new) }
     ensures err { IfErr result (λ e. GivesUp (method_step class.now name.now) recorder.old e
         recorder.new) }
     ensures follows { D.follows recorder.old.inner recorder.new.inner }

@@ -1,5 +1,5 @@
 -- Reading items one after the other, as a loop does.
-use Rattle.std.proofs.Common.{◌≡◌, ℕ, suc, ◌-◌, ◌+◌, ◌≤◌, ◌<◌, Bool, true, false, List, [], ◌∷◌, ◌++◌, length, map, Option, Some, None, Result, Ok, Err, refl, sym, ap, ◌∙◌, arith}
+use Rattle.std.proofs.Common.{◌≡◌, ℕ, suc, ◌-◌, ◌+◌, ◌≤◌, ◌<◌, Bool, true, false, List, [], ◌∷◌, ◌++◌, length, Option, Some, None, Result, Ok, Err, refl, sym, ap, ◌∙◌, arith}
 use Rattle.byte_readers.specs.declared.breach.Breach.{Breach}
 use Rattle.byte_readers.specs.declared.breach.ReadError.{ReadError}
 use Rattle.byte_readers.specs.declared.breach.ReadError.TheVariants as errors
@@ -54,11 +54,6 @@ is_after_last {A} precedes (a ∷ (c ∷ rest)) b =
 
 pub after_some : {A : Type 0} (precedes : A → A → Bool) (items : List A) (a b : A) → Some a ≡ slice_get items (length items - 1) → is_after precedes items b ≡ precedes a b
 after_some {A} precedes items a b h = sym (is_after_last precedes items b) ∙ ap (λ (o : Option A). after_last precedes o b) (sym h)
-
--- what is seen of one item more
-pub one_more : {A B : Type 0} (one : A → B) (items : List A) (item : A) → map one (items ++ item ∷ []) ≡ map one items ++ one item ∷ []
-one_more one [] item = refl
-one_more one (a ∷ items) item = ap (λ bs. one a ∷ bs) (one_more one items item)
 
 -- what ends the reading of what is seen ends that of the items
 pub ends_both : {A B : Type 0} {one : A → B} {seen : Decoder B} {itself : Decoder A} (tells : ReadsAsSeen one seen itself) (e : ReadError) (bytes : List ℕ) → Fails e (seen bytes) → Fails e (itself bytes)

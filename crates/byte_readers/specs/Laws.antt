@@ -9,6 +9,7 @@ use Rattle.std.proofs.lemmas.Bool.{cases_lt, ltb-false, le-ltb, eqb-false, ne_eq
 use Rattle.std.proofs.lemmas.List.{take_at, drop_at, take-append-drop, length-append, length-take, get_or-drop, get_or-take, get_or_past, append-nil}
 use Rattle.std.proofs.lemmas.List.Concat.{flat_map-cons}
 use Rattle.std.proofs.lemmas.Nat.{be_bytes_2, be_bytes_4, be_bytes_8, from_be_bytes-to_be_bytes_2, from_be_bytes-to_be_bytes_4, from_be_bytes-to_be_bytes_8}
+use Rattle.std.proofs.lemmas.Option.{same_Some}
 use Rattle.byte_readers.specs.declared.breach.Breach.{Breach}
 use Rattle.byte_readers.specs.declared.breach.Breach.TheVariants.{Short, NotCanonical}
 use Rattle.byte_readers.specs.Names.{IsName}
@@ -446,15 +447,12 @@ chosen : {A : Type 0} (b : Bool) (x y z : A) → cond b x y ≡ z
 chosen true x y z e = inl (refl, e)
 chosen false x y z e = inr (refl, e)
 
-some_is : {A : Type 0} (x y : A) → Some x ≡ Some y → x ≡ y
-some_is x y e = cc
-
 -- what is found passes the test
 pub found_passes : {A : Type 0} (test : A → Bool) (items : List A) (x : A)
     → find test items ≡ Some x → test x ≡ true
 found_passes test [] x e = absurd cc
 found_passes {A} test (y ∷ items) x e =
     elim (chosen (test y) (Some y) (find test items) (Some x) e) [
-      | inl h ↦ subst (λ (z : A). test z ≡ true) (some_is y x h.1) h.0
+      | inl h ↦ subst (λ (z : A). test z ≡ true) (same_Some y x h.1) h.0
       | inr h ↦ found_passes test items x h.1
     ]

@@ -15,5 +15,5 @@ pub use fields::{
 };
 pub use format::{Format, Ordered};
 pub use lists::{check_list, put_list, read_ascending, read_list};
-pub use names::{NameFormat, check_name, put_name, read_name, read_name_text};
+pub use names::{NameFormat, as_text, check_name, put_name, read_name, read_name_text};
 pub use options::{check_option, put_option, read_option};

@@ -55,7 +55,7 @@ pub fn read_name_text(bytes: &[u8]) -> Result<(&str, &[u8]), ReadError>
 }
 
 /// The bytes as a text, where they are UTF-8.
-fn as_text(bytes: &[u8]) -> Option<&str>
+pub fn as_text(bytes: &[u8]) -> Option<&str>
     ensures same { IfSome result (λ text. text.now ≡ bytes.now) }
     ensures is_text { is_some result ≡ is_utf8 bytes.now }
 {

@@ -1,5 +1,5 @@
 use answer_fixtures::{is_opened, is_print, is_sealed, is_sealed_beside, open_fault, sealed_of};
-use fingerprint::{OpenFault, Print};
+use fingerprint::{Print, SealedFault};
 use item_ids::Kind;
 use result_bytes::Refusal;
 use std::test::*;
@@ -45,9 +45,9 @@ fn sealed_bytes_are_opened(rt: HostRuntime) -> Result<(), Fail> {
 }
 
 // Kinds, fingerprints and why the header's bytes aren't opened so.
-const FAULTS: &[(Kind, OpenFault)] = &[
-    (Kind::Header, OpenFault::WrongPrint),
-    (Kind::Supers, OpenFault::Refused(Refusal::WrongKind)),
+const FAULTS: &[(Kind, SealedFault)] = &[
+    (Kind::Header, SealedFault::WrongPrint),
+    (Kind::Supers, SealedFault::Refused(Refusal::WrongKind)),
 ];
 
 #[test]

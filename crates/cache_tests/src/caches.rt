@@ -1,10 +1,11 @@
 //! A cache in a folder of files.
-ghost use Rattle.session_cache.specs.Starts.{IsPlace};
+ghost use Rattle.session_cache.specs.Starts.{IsSessionPlace};
 
 use crate::first::first;
+use crate::starts::find_start;
 use answer_fixtures::is_print;
 use fingerprint::Print;
-use session_cache::{CacheFault, Place, Start, find_start, write_file};
+use session_cache::{CacheWriteFault, SessionPlace, Start, write_file};
 use session_fixtures::{is_read_again, session_of};
 use sessions::Session;
 use std::fs;
@@ -16,7 +17,7 @@ use std::thread::Threads;
 #[derive(Clone, Copy, PartialEq, Eq)]
 struct Summary {
     past: Option<u32>,
-    place: Option<Place>,
+    place: Option<SessionPlace>,
     is_noted: bool,
 }
 
@@ -29,27 +30,24 @@ fn summary_of(start: &Start) -> Summary {
 }
 
 fn look<R: Files + AllocGlobal>(rt: &R, dir: &str) -> Result<Summary, Fail> {
-    match find_start(rt, dir) {
-        Ok(start) => Ok(summary_of(&start)),
-        Err(_) => Err(Fail::from("a start")),
-    }
+    Ok(summary_of(&find_start(rt, dir)?))
 }
 
 /// Writes the first session of a chain, which has no records.
 fn keep<R: Files + AllocGlobal + Threads>(
     rt: &R,
     dir: &str,
-    place: Place,
+    place: SessionPlace,
     number: u32,
 ) -> Result<(), Fail>
-    requires { IsPlace place }
+    requires { IsSessionPlace place }
 {
     let session = Session::new(rt.alloc(), number, [0; 32], Vec::new(rt.alloc()))?;
     written(write_file(rt, rt, dir, place, &session, 1))
 }
 
 /// Fails where a file wasn't written.
-fn written(ending: Result<(), CacheFault>) -> Result<(), Fail> {
+fn written(ending: Result<(), CacheWriteFault>) -> Result<(), Fail> {
     match ending {
         Ok(()) => Ok(()),
         Err(_) => Err(Fail::from("a file")),
@@ -57,7 +55,7 @@ fn written(ending: Result<(), CacheFault>) -> Result<(), Fail> {
 }
 
 /// The place of the first session of a cache.
-const FIRST_PLACE: Place = Place {
+const FIRST_PLACE: SessionPlace = SessionPlace {
     chain: 0,
     number: 0,
 };
@@ -96,11 +94,11 @@ fn clear<R: Files + AllocGlobal>(rt: &R, dir: &str) {
 #[test]
 fn a_chain_goes_on(rt: HostRuntime) -> Result<(), Fail> {
     clear(&rt, "on");
-    let first = Place {
+    let first = SessionPlace {
         chain: 0,
         number: 0,
     };
-    let second = Place {
+    let second = SessionPlace {
         chain: 0,
         number: 1,
     };
@@ -131,13 +129,13 @@ fn another_chain_begins(rt: HostRuntime) -> Result<(), Fail> {
     keep(
         &rt,
         "next",
-        Place {
+        SessionPlace {
             chain: 12,
             number: 3,
         },
         4,
     )?;
-    let place = Place {
+    let place = SessionPlace {
         chain: 13,
         number: 0,
     };

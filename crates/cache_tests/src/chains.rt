@@ -1,10 +1,11 @@
 //! Caches whose last file is read over those in front of it: from the nearest one of form 1 on, or from the first.
 
 use crate::first::first;
+use crate::starts::find_start;
 use answer_fixtures::Unfit;
 use devices::MemorySink;
 use profiles::Profile;
-use session_cache::{Note, Place, Start, Why, find_start};
+use session_cache::{NotFollowed, Note, SessionPlace, Start};
 use session_file::FileFault;
 use session_fixtures::{file_as, greened};
 use sessions::{Form, Session, Terms};
@@ -104,7 +105,7 @@ const BROKEN_THIRD: Stored = Stored {
 struct Row {
     files: &'static [Stored],
     past: Option<u32>,
-    note: Option<(u32, Why)>,
+    note: Option<(u32, NotFollowed)>,
 }
 
 const READ: &[Row] = &[
@@ -171,12 +172,12 @@ const REFUSED: &[Row] = &[
     Row {
         files: &[FIRST_OF_2, SECOND_OF_2, BROKEN_THIRD],
         past: None,
-        note: Some((2, Why::Refused(FileFault::BadDigest))),
+        note: Some((2, NotFollowed::Refused(FileFault::BadDigest))),
     },
     Row {
         files: &[FIRST_OF_2, BROKEN_SECOND, THIRD_OF_2],
         past: None,
-        note: Some((1, Why::Refused(FileFault::BadDigest))),
+        note: Some((1, NotFollowed::Refused(FileFault::BadDigest))),
     },
     Row {
         files: &[
@@ -188,13 +189,13 @@ const REFUSED: &[Row] = &[
             THIRD_OF_2,
         ],
         past: None,
-        note: Some((0, Why::Refused(FileFault::Truncated))),
+        note: Some((0, NotFollowed::Refused(FileFault::Truncated))),
     },
     // The first file that is there is of form 2, and takes results over.
     Row {
         files: &[SECOND_OF_2, THIRD_OF_2],
         past: None,
-        note: Some((1, Why::Refused(FileFault::NoPastResult(2)))),
+        note: Some((1, NotFollowed::Refused(FileFault::NoPastResult(2)))),
     },
     Row {
         files: &[
@@ -205,7 +206,7 @@ const REFUSED: &[Row] = &[
             SECOND_OF_2,
         ],
         past: None,
-        note: Some((0, Why::Refused(FileFault::NoPastResult(2)))),
+        note: Some((0, NotFollowed::Refused(FileFault::NoPastResult(2)))),
     },
 ];
 
@@ -229,7 +230,7 @@ const STRANGE: &[Row] = &[
             THIRD_OF_2,
         ],
         past: None,
-        note: Some((1, Why::Refused(FileFault::Truncated))),
+        note: Some((1, NotFollowed::Refused(FileFault::Truncated))),
     },
     Row {
         files: &[
@@ -241,7 +242,7 @@ const STRANGE: &[Row] = &[
             THIRD_OF_2,
         ],
         past: None,
-        note: Some((1, Why::Refused(FileFault::BadMagic))),
+        note: Some((1, NotFollowed::Refused(FileFault::BadMagic))),
     },
     Row {
         files: &[
@@ -253,7 +254,7 @@ const STRANGE: &[Row] = &[
             THIRD_OF_2,
         ],
         past: None,
-        note: Some((1, Why::Refused(FileFault::BadMagic))),
+        note: Some((1, NotFollowed::Refused(FileFault::BadMagic))),
     },
     // (its version is 256)
     Row {
@@ -266,7 +267,7 @@ const STRANGE: &[Row] = &[
             THIRD_OF_2,
         ],
         past: None,
-        note: Some((1, Why::Refused(FileFault::Version))),
+        note: Some((1, NotFollowed::Refused(FileFault::Version))),
     },
     // Sessions of another number than their names', midway and last.
     Row {
@@ -279,7 +280,7 @@ const STRANGE: &[Row] = &[
             THIRD_OF_2,
         ],
         past: None,
-        note: Some((1, Why::Number)),
+        note: Some((1, NotFollowed::Number)),
     },
     Row {
         files: &[
@@ -291,7 +292,7 @@ const STRANGE: &[Row] = &[
             },
         ],
         past: None,
-        note: Some((2, Why::Number)),
+        note: Some((2, NotFollowed::Number)),
     },
     // No session follows the last one that a chain can have, which is read over the one before it.
     Row {
@@ -304,7 +305,7 @@ const STRANGE: &[Row] = &[
             },
         ],
         past: None,
-        note: Some((9999, Why::Full)),
+        note: Some((9999, NotFollowed::Full)),
     },
 ];
 
@@ -358,7 +359,7 @@ fn store<R: Files + AllocGlobal>(rt: &R, stored: &Stored) -> Result<(), Fail> {
     if Session::MOST < stored.name {
         return Err(Fail::from("a number"));
     }
-    let place = Place {
+    let place = SessionPlace {
         chain: 0,
         number: stored.name,
     };
@@ -382,20 +383,17 @@ fn start_behind<R: Files + AllocGlobal>(rt: &R, files: &[Stored]) -> Result<Star
     }
     let start = find_start(rt, DIR);
     clear(rt);
-    match start {
-        Ok(start) => Ok(start),
-        Err(_) => Err(Fail::from("a start")),
-    }
+    start
 }
 
 /// The place of the next session: behind the one that is read, or in the next chain.
-fn place_of(past: Option<u32>) -> Place {
+fn place_of(past: Option<u32>) -> SessionPlace {
     match past {
-        Some(number) => Place {
+        Some(number) => SessionPlace {
             chain: 0,
             number: number.saturating_add(1),
         },
-        None => Place {
+        None => SessionPlace {
             chain: 1,
             number: 0,
         },
@@ -403,9 +401,9 @@ fn place_of(past: Option<u32>) -> Place {
 }
 
 /// What is said of the file of this number in the first chain.
-fn note_of(note: Option<(u32, Why)>) -> Option<Note> {
+fn note_of(note: Option<(u32, NotFollowed)>) -> Option<Note> {
     let (number, why) = note?;
-    let place = Place { chain: 0, number };
+    let place = SessionPlace { chain: 0, number };
     Some(Note { place, why })
 }
 

@@ -12,3 +12,5 @@ mod failing;
 mod first;
 #[cfg(test)]
 mod stalling;
+#[cfg(test)]
+mod starts;

@@ -1,7 +1,6 @@
 -- A session that was closed has a record of the answer.
-use Rattle.std.proofs.Common.{◌≡◌, ◌∙◌, ℕ, ◌<◌, Option, Some, None, refl, sym, ap, arith}
+use Rattle.std.proofs.Common.{◌≡◌, ◌∙◌, ℕ, ◌<◌, Option, Some, None, Err, refl, sym, ap, arith}
 use Rattle.std.specs.Prelude.{IfSome}
-use Rattle.profiles.specs.declared.profile.Profile.{Profile}
 use Rattle.std.specs.declared.alloc.Global.{Global}
 use Rattle.std.specs.declared.sync.Arc.{Arc}
 use Rattle.item_ids.specs.declared.key.Key.TheVariants.{Answer}
@@ -12,6 +11,7 @@ use Rattle.mj_rules.specs.Laws.{AnswerLaw}
 use Rattle.recorder.specs.Projects.{Project}
 use Rattle.query_rules.specs.Meaning.{mean}
 use Rattle.query_rules.specs.Queries.{queries}
+use Rattle.providers.specs.AnswerValues.{IsAnswerValue}
 use Rattle.providers.proofs.AnswerKind.{answer_value}
 use Rattle.sessions.specs.declared.terms.Terms.{Terms}
 use Rattle.sessions.specs.Sessions.{SessionValue, IsSession, Entry, entries, entry_at, session_in}
@@ -23,31 +23,41 @@ use Rattle.graph_rules.proofs.SessionRules.{session_graph, told_of_entry, entry_
 use Rattle.key_states.specs.Closing.{IsFull}
 use Rattle.session_cache.specs.Names.{most}
 use Rattle.next_sessions.specs.Nexts.{StandsApart, IsNextSession}
-use Rattle.driver.specs.Sessions.{IsSessionOf}
+use Rattle.driver.specs.Sessions.{DriveGives, IsCrew, IsSessionOf}
+use Rattle.driver.specs.declared.fault.DriveFault.{DriveFault}
+use Rattle.driver.specs.declared.fault.DriveFault.TheVariants as drive
 use Rattle.driver.specs.declared.reports.Reports.{Reports}
-use Rattle.cached_check.specs.Checks.{IsAnswered, IsNextByRules, IsMadeOver}
+use Rattle.mini_java.proofs.Headline.{means_the_rules}
+use Rattle.cached_check.specs.Checks.{RecordsAnswer, IsNextByRules, IsMadeOver}
 
-answered : (s : SessionValue) → IsSession s → (r : Entry) → entry_at s Answer ≡ Some r → IsAnswered s
+-- the record of the answer has one
+pub has_answer_value : (s : SessionValue) → IsSession s → (r : Entry) → entry_at s Answer ≡ Some r → IsAnswerValue r.value
+has_answer_value s session r has = answer_value r.value ((session_graph s session).kind Answer r has)
+
+answered : (s : SessionValue) → IsSession s → (r : Entry) → entry_at s Answer ≡ Some r → RecordsAnswer s
 answered s session r has =
-    let v = answer_value r.value ((session_graph s session).kind Answer r has) in
+    let v = has_answer_value s session r has in
     (v.0, record { entry = r; has = has; value = v.1 })
 
-closed_answered : (p : Project) (s : SessionValue) → IsSession s → (state : State) → AreClosed p state (entries s) → IsAnswered s
+closed_answered : (p : Project) (s : SessionValue) → IsSession s → (state : State) → AreClosed p state (entries s) → RecordsAnswer s
 closed_answered p s session state closed =
     let it = closed.all Answer (starts Answer answer) in
     answered s session it.0 (ap (entry_at s) (sym it.2) ∙ told_of_entry s session it.0 it.1)
 
 -- ---- the previous session
 
-pub has_room : (past : Option (Arc SessionValue Global)) → IfSome (session_in past) (λ s. s.number < most) → IsFull (session_in past) → ⊥
+has_room : (past : Option SessionValue) → IfSome past (λ s. s.number < most) → IsFull past → ⊥
 has_room None room full = full
 has_room (Some s) room full = omega arith
 
--- ---- the answer of the rules
+-- one to 64 workers lack nothing but memory for a session that there is room for
+pub only_memory : (terms : Terms) (past : Option SessionValue) (p : Project) (workers : ℕ) (fault : DriveFault) → IsCrew workers → IfSome past (λ s. s.number < most)
+    → DriveGives queries terms past p workers (Err fault) → fault ≡ drive.OutOfMemory
+only_memory terms past p workers drive.Workers crew room h = absurd (h crew)
+only_memory terms past p workers drive.ChainFull crew room h = absurd (has_room past room h.1)
+only_memory terms past p workers drive.OutOfMemory crew room h = refl
 
-means_the_rules : (profile : Profile) (p : Project) → mean profile p Answer ≡ values.Answer (rules_of profile p)
-unfolding mean
-means_the_rules profile p = refl
+-- ---- the answer of the rules
 
 same_answer : (a b : AnswerValue) → values.Answer a ≡ values.Answer b → a ≡ b
 same_answer a b e = cc

@@ -1,5 +1,5 @@
 //! The session that comes next.
-ghost use Rattle.std.specs.Prelude.{◌<◌, IfOk, IfSome};
+ghost use Rattle.std.specs.Prelude.{◌≡◌, ◌<◌, IfOk, IfErr, IfSome};
 ghost use Rattle.session_cache.specs.Names.{most};
 ghost use Rattle.sessions.specs.Sessions.{session_in};
 ghost use Rattle.driver.specs.Sessions.{IsCrew};
@@ -11,14 +11,15 @@ use mini_java::{DriveFault, Open, run_session_as};
 use mj_project::Project;
 use mj_rules::answer_laws;
 use sessions::{Session, Terms};
-use std::alloc::{AllocError, Global};
+use std::alloc::Global;
 use std::sync::{Arc, Wait};
 use std::thread::Threads;
 
 /// The session of a project, of these terms, that follows the previous one, made by so many workers, each in a thread of
 /// its own. Where the previous session is one of some project, or there is none, and no two different results, one of
 /// it and one of this session, share a fingerprint, it is the session that any workers make, and its answer is what the
-/// static rules of its profile give the project's files.
+/// static rules of its profile give the project's files. There is none only if memory runs out.
+#[tactic(auto, using(crate::proofs::Answered::only_memory))]
 pub fn next_session<T: Threads + Wait + Sync>(
     rt: &T,
     alloc: Global,
@@ -26,12 +27,13 @@ pub fn next_session<T: Threads + Wait + Sync>(
     project: &Project,
     terms: Terms,
     workers: usize,
-) -> Result<Session, AllocError>
+) -> Result<Session, DriveFault>
     requires crew { IsCrew workers }
     requires room { IfSome (session_in past) (λ s. s.number < most) }
     ensures made { IfOk result (IsMadeOver terms (session_in past) project.now) }
     ensures next { IfOk result (λ s. StandsApart queries (session_in past) s
         → IsNextByRules terms (session_in past) project.now s) }
+    ensures memory { IfErr result (λ fault. fault ≡ DriveFault.OutOfMemory) }
 {
     // The answer that the queries mean is that of the rules.
     answer_laws();
@@ -41,7 +43,6 @@ pub fn next_session<T: Threads + Wait + Sync>(
             let _records = session.records();
             Ok(session)
         }
-        Err(DriveFault::OutOfMemory) => Err(AllocError),
-        Err(DriveFault::Workers | DriveFault::ChainFull) => unreachable!(),
+        Err(fault) => Err(fault),
     }
 }

@@ -1,10 +1,11 @@
 -- In a next session no query is executed without need.
-use Rattle.std.proofs.Common.{◌≡◌, ◌≢◌, ◌∙◌, Bool, true, false, not, cond, List, [], ◌∷◌, Option, Some, None, option_map, refl, sym, ap, subst, true≢false}
+use Rattle.std.proofs.Common.{◌≡◌, ◌≢◌, ◌∙◌, Bool, true, false, cond, List, [], ◌∷◌, Option, Some, None, option_map, refl, sym, ap, subst, true≢false}
 use Rattle.std.specs.Prelude.{find}
 use Rattle.std.specs.List.{AllByRecursion}
 use Rattle.std.proofs.lemmas.Option.{none-some}
 use Rattle.std.proofs.lemmas.List.Elements.{All-contains, All-from_recursion}
 use Rattle.std.proofs.lemmas.Slice.Eq.{bytes_eq-Decides}
+use Rattle.std.proofs.lemmas.Bool.{not-false}
 use Rattle.item_ids.specs.declared.key.Key.{Key}
 use Rattle.item_ids.specs.Keys.{kind_of}
 use Rattle.fingerprint.specs.Prints.{print_of}
@@ -23,7 +24,7 @@ use Rattle.graph_rules.proofs.SessionRules.{entry_told}
 use Rattle.next_sessions.specs.Nexts.{IsNextSession}
 use Rattle.session_causes.specs.declared.cause.Cause.TheVariants.{NothingChanged}
 use Rattle.session_causes.specs.declared.cause.Why.{Why}
-use Rattle.session_causes.specs.Causes.{AreWhys, IsRightWhy, IsTold, IsWhy, first_red, have_same_print, is_red, mark_at}
+use Rattle.session_causes.specs.Causes.{AreWhys, IsRightWhy, IsExplained, IsWhy, first_red, have_same_print, is_red, mark_at}
 
 -- where none is found, none passes
 none_passes : {X : Type 0} (test : X → Bool) (xs : List X) → find test xs ≡ None → AllByRecursion (λ x. test x ≡ false) xs
@@ -33,10 +34,6 @@ none_passes {X} test (x ∷ xs) none =
       | true ↦ λ is e. absurd (none-some x (sym e))
       | false ↦ λ is e. (is, none_passes test xs e)
     ]) refl none
-
-not_true : (b : Bool) → not b ≡ false → b ≡ true
-not_true true e = refl
-not_true false e = absurd (true≢false e)
 
 -- the two entries that have one fingerprint
 both_have : (old new : Option Entry) → have_same_print old new ≡ true
@@ -49,7 +46,7 @@ module _ (mean : Meaning) (reads : ReadLists) (over : Setting) (p : Project) (s 
   -- a key that has one fingerprint in both sessions
   same_edge : (past : Option SessionValue) → over.held ≡ past_entry past → (e : Key) → is_red past s e ≡ false → IsReadIn reads p e × (print_in over.held e ≡ Some (print_of (mean p e)))
   same_edge past held e not_red =
-      let b = both_have (past_entry past e) (entry_at s e) (not_true (have_same_print (past_entry past e) (entry_at s e)) not_red) in
+      let b = both_have (past_entry past e) (entry_at s e) (not-false (have_same_print (past_entry past e) (entry_at s e)) not_red) in
       let n = next.each b.1 (entry_told s e b.1 b.3) in
       let key : b.1.key ≡ e = has_key s session e b.1 b.3 in
       let value : b.1.value ≡ mean p e = n.value ∙ ap (mean p) key in (
@@ -86,7 +83,7 @@ no_need queries terms past p s next q why =
     (unchanged mean reads over p s next.session next.told past refl q why.1.0 why.1.1 why.1.2.0 stays)
 
 each_needed : (queries : Queries) (terms : Terms) (past : Option SessionValue) (p : Project) (s : SessionValue) → IsNextSession queries terms past p s → (whys : List Why)
-    → AllByRecursion (λ why. IsTold past s why.key.now × IsRightWhy past s (crossing_kinds queries.by_profile s.terms.profile past) why) whys → AllByRecursion (λ why. why.cause ≢ NothingChanged) whys
+    → AllByRecursion (λ why. IsExplained past s why.key.now × IsRightWhy past s (crossing_kinds queries.by_profile s.terms.profile past) why) whys → AllByRecursion (λ why. why.cause ≢ NothingChanged) whys
 each_needed queries terms past p s next [] h = tt
 each_needed queries terms past p s next (w ∷ whys) h = (
   (λ is. no_need queries terms past p s next w.key.now (subst (IsWhy past s (crossing_kinds queries.by_profile s.terms.profile past) w.key.now) is h.0.1.cause)),

@@ -1,12 +1,14 @@
 -- A chain of right sessions stays one with the next session over its last one.
-use Rattle.std.proofs.Common.{◌≡◌, ℕ, zero, suc, ◌+◌, ◌<◌, List, [], ◌∷◌, ◌++◌, map, length, Option, Some, None, refl, sym, ap, ◌∙◌, subst, arith}
+use Rattle.std.proofs.Common.{◌≡◌, ℕ, ◌+◌, List, [], ◌∷◌, ◌++◌, map, length, Option, Some, None, refl, sym, ap, ◌∙◌, subst, arith}
 use Rattle.std.specs.Prelude.{Contains, IfSome}
 use Rattle.std.specs.List.{AllByRecursion}
 use Rattle.std.proofs.lemmas.List.{map-append}
+use Rattle.std.proofs.lemmas.List.Elements.{Contains-append_left, Contains-push}
 use Rattle.std.proofs.lemmas.Option.{none-some, same_Some}
 use Rattle.profiles.specs.declared.profile.Profile.{Profile}
 use Rattle.item_ids.specs.declared.key.Key.{Key}
 use Rattle.item_ids.specs.declared.key.Key.TheVariants.{Answer}
+use Rattle.item_ids.proofs.Lists.{all_push}
 use Rattle.result_bytes.specs.declared.value.Value.{Value}
 use Rattle.mj_project.specs.Projects.{IsProject}
 use Rattle.recorder.specs.Projects.{Project}
@@ -24,35 +26,26 @@ use Rattle.graph_rules.proofs.SettingRules.{kept_held}
 use Rattle.graph_rules.proofs.SessionRules.{entry_told, no_clash}
 use Rattle.next_sessions.specs.Nexts.{IsOfSomeProject, StandsApart, IsNextSession, ReadsOwnFiles}
 use Rattle.next_sessions.proofs.NextRight.{told, next_right}
-use Rattle.audit_graph.specs.Chains.{IsLinked, AreLinked}
+use Rattle.audit_graph.specs.Chains.{AreLinked}
 use Rattle.audit_graph.specs.declared.fault.AuditFault.{AuditFault}
 use Rattle.audit_graph.specs.declared.fault.AuditFault.TheVariants.{OutOfMemory}
-use Rattle.audit_graph.proofs.Entries.{contains_first, contains_later, all_last}
+use Rattle.audit_graph.proofs.Entries.{contains_first, contains_later}
 use Rattle.audit_replay.specs.Audits.{AreRight, AreApart, IsRecorded, IsAccepted, AuditRefuses, last_of}
 use Rattle.audit_replay.specs.RightChains.{IsRightChain}
 use Rattle.audit_replay.proofs.FileRules.{last_more}
 use Rattle.audit_replay.proofs.RightRules.{refused, accepted_right}
+use Rattle.audit_replay.proofs.SumRules.{linked_more, right_more}
 
--- ---- lists
-
-within : {X : Type 0} (xs : List X) (y x : X) → Contains xs x → Contains (xs ++ y ∷ []) x
-within [] y x c = absurd (let l = c.1 in omega arith)
-within (z ∷ xs) y x (zero, l, is) = subst (Contains (z ∷ (xs ++ y ∷ []))) is (contains_first z (xs ++ y ∷ []))
-within (z ∷ xs) y x (suc i, l, is) = let lt : i < length xs = omega (arith, l) in contains_later z (xs ++ y ∷ []) x (within xs y x (i, lt, is))
-
-at_last : {X : Type 0} (xs : List X) (x : X) → Contains (xs ++ x ∷ []) x
-at_last [] x = contains_first x []
-at_last (y ∷ xs) x = contains_later y (xs ++ x ∷ []) x (at_last xs x)
+-- ---- the last session
 
 -- the last session is one of them
-last_in : (past : Option SessionValue) (ss : List SessionValue) (t : SessionValue) → ((x : SessionValue) → past ≡ Some x → x ≡ t → ⊥) → last_of past ss ≡ Some t → Contains ss t
-last_in past [] t other is = absurd (other t is refl)
-last_in past (s ∷ []) t other is = subst (Contains (s ∷ [])) (same_Some s t is) (contains_first s [])
-last_in past (s ∷ u ∷ us) t other is = contains_later s (u ∷ us) t (behind s u us is)
+last_in : (ss : List SessionValue) (t : SessionValue) → last_of None ss ≡ Some t → Contains ss t
+last_in [] t is = absurd (none-some t is)
+last_in (s ∷ ss) t is = behind s ss is
   where
-    behind : (s u : SessionValue) (us : List SessionValue) → last_of (Some u) us ≡ Some t → Contains (u ∷ us) t
-    behind s u [] is = subst (Contains (u ∷ [])) (same_Some u t is) (contains_first u [])
-    behind s u (v ∷ vs) is = contains_later u (v ∷ vs) t (behind u v vs is)
+    behind : (u : SessionValue) (us : List SessionValue) → last_of (Some u) us ≡ Some t → Contains (u ∷ us) t
+    behind u [] is = subst (Contains (u ∷ [])) (same_Some u t is) (contains_first u [])
+    behind u (v ∷ vs) is = contains_later u (v ∷ vs) t (behind v vs is)
 
 -- ---- numbers and links
 
@@ -63,15 +56,7 @@ number_behind past k n (s ∷ ss) is linked many =
     let here : next_number (Some s) ≡ k + 1 = omega (arith, number) in
     number_behind (Some s) (k + 1) n ss here linked.2 (omega (arith, many))
 
-linked_more : (past : Option SessionValue) (k n : ℕ) (ss : List SessionValue) (s : SessionValue) → AreLinked past k ss → n ≡ k + length ss → IsLinked (last_of past ss) n s → IsTakenFrom (last_of past ss) s → AreLinked past k (ss ++ s ∷ [])
-linked_more past k n [] s linked many is taken = let e : n ≡ k = omega (arith, many) in (subst (λ m. IsLinked past m s) e is, taken, tt)
-linked_more past k n (t ∷ ts) s linked many is taken = (linked.0, linked.1, linked_more (Some t) (k + 1) n ts s linked.2 (omega (arith, many)) is taken)
-
 module _ (queries : Queries) where
-  right_more : (past : Option SessionValue) (ss : List SessionValue) (s : SessionValue) → AreRight queries past ss → IsRightAfter queries (last_of past ss) s → AreRight queries past (ss ++ s ∷ [])
-  right_more past [] s right is = (is, tt)
-  right_more past (t ∷ ts) s right is = (right.0, right_more (Some t) ts s right.1 is)
-
   -- a session is that of some project by its own profile
   abbrev IsKnown : SessionValue → Type 0
   IsKnown t = IsOfSomeProject (queries.mean t.terms.profile) (queries.reads t.terms.profile) (entry_at t)
@@ -92,8 +77,8 @@ module _ (queries : Queries) where
     there None last v w a b same = absurd (none-some a.entry a.has)
     there (Some t) last v w a b same =
         apart v w
-        (record { session = t; there = within sessions s t (last_in None sessions t (λ y e _. none-some y e) last); key = a.key; entry = a.entry; has = a.has; value = a.value })
-        (record { session = s; there = at_last sessions s; key = b.key; entry = b.entry; has = b.has; value = b.value })
+        (record { session = t; there = Contains-append_left sessions (s ∷ []) t (last_in sessions t last); key = a.key; entry = a.entry; has = a.has; value = a.value })
+        (record { session = s; there = Contains-push sessions s; key = b.key; entry = b.entry; has = b.has; value = b.value })
         same
 
     pub stands_apart : StandsApart queries (last_of None sessions) s
@@ -124,14 +109,14 @@ module _ (queries : Queries) where
 
     pub goes_on : IsRightChain queries (sessions ++ next ∷ [])
     goes_on = record {
-      each = all_last IsSession sessions next chain.each is.session;
-      chain = linked_more None 0 (length sessions) sessions next chain.chain (omega arith)
+      each = all_push IsSession sessions next chain.each is.session;
+      chain = linked_more None 0 (length sessions) sessions next (omega arith) chain.chain
           (record {
             number = is.number ∙ number_behind None 0 (length sessions) sessions refl chain.chain (omega arith);
             link = is.link;
           })
           (taken_over past next is.session right (no_clash past next past_is is.session stands.apart));
-      right = right_more None sessions next chain.right right;
+      right = right_more queries None sessions next chain.right right;
       answered = λ none.
           let over = setting_of queries.by_profile terms.profile past in
           let x = told (queries.mean terms.profile) (queries.reads terms.profile) (laws.each terms.profile) over p next project own is.session is.told Answer (root Answer answer_root) in
@@ -143,7 +128,7 @@ fewer_apart : (ss : List SessionValue) (s : SessionValue) → AreApart (ss ++ s 
 fewer_apart ss s apart v w a b same = apart v w (more v a) (more w b) same
   where
     more : (v : Value) → IsRecorded ss v → IsRecorded (ss ++ s ∷ []) v
-    more v r = record { session = r.session; there = within ss s r.session r.there; key = r.key; entry = r.entry; has = r.has; value = r.value }
+    more v r = record { session = r.session; there = Contains-append_left ss (s ∷ []) r.session r.there; key = r.key; entry = r.entry; has = r.has; value = r.value }
 
 module _ (queries : Queries) (files : List (List ℕ)) (old new : List Key) (profile : Profile) (project : Project) (answer : Value) (count runs : ℕ)
     (accepted : IsAccepted queries files old new profile project answer count runs) where

@@ -1,19 +1,20 @@
 -- What Answer leads to in a project are trees and sources of its own files only.
-use Rattle.std.proofs.Common.{◌≡◌, ℕ, zero, suc, ◌+◌, List, [], ◌∷◌, map, slice_get, Option, Some, None, refl, sym, ap, ◌∙◌, subst, arith}
+use Rattle.std.proofs.Common.{◌≡◌, ◌+◌, List, [], ◌∷◌, map, slice_get, Option, Some, None, refl, sym, ap, ◌∙◌, subst, arith}
 use Rattle.std.specs.Prelude.{Contains}
 use Rattle.std.specs.List.{AllByRecursion}
-use Rattle.std.proofs.lemmas.Option.{none-some, same_Some}
 use Rattle.profiles.specs.declared.profile.Profile.{Profile}
 use Rattle.profiles.specs.declared.profile.Profile.TheVariants.{One, Two}
 use Rattle.item_ids.specs.declared.key.Key.{Key}
 use Rattle.item_ids.specs.declared.key.Key.TheVariants as keys
+use Rattle.item_ids.proofs.Lists.{all_from}
 use Rattle.mj_tree.specs.Trees.{Name, Method}
 use Rattle.mj_tree.specs.declared.tree.Field.{Field}
 use Rattle.mj_members.specs.Declarations.{ClassDecl}
 use Rattle.mj_classes.specs.Chains.{chain_of, chain_names}
 use Rattle.mj_classes.specs.Members.{own_method}
+use Rattle.mj_classes.proofs.Tables.{all_append}
 use Rattle.mj_phrases.specs.Inquiries.{Sig}
-use Rattle.mj_project.specs.Projects.{SourceFile, names_of}
+use Rattle.mj_project.specs.Projects.{names_of}
 use Rattle.mj_rules.specs.FaultLists.{same_types, rest_of, nearest_sig, method_names}
 use Rattle.mj_rules.specs.Sentences.{classes_in}
 use Rattle.mj_rules.specs.Worlds.{world_of}
@@ -23,16 +24,17 @@ use Rattle.recorder.specs.Projects.{Project}
 use Rattle.query_rules.specs.Items.{class_at, body_at, name_of, file_of_class}
 use Rattle.query_rules.specs.BodyReads.{type_reads, accept_reads}
 use Rattle.query_rules.specs.Reads.{all_trees, tree_of_class, chain_headers, signatures, row_signature, field_headers, return_chain, return_chains, overriding, bodies_of, answer_parts, class_check_reads, diagnosis_reads, asked_keys, reads}
-use Rattle.query_rules.proofs.Firsts.{all_append, all_mapped, all_flat, firsts_all}
+use Rattle.query_rules.proofs.Firsts.{all_mapped, all_flat, firsts_all}
 use Rattle.query_rules.proofs.BodyRanks.{type_all, accept_all, when_all, body_all}
 use Rattle.text_queries.proofs.Files.{stands_in}
 use Rattle.graph_rules.specs.Graphs.{IsRoot}
 use Rattle.graph_rules.specs.Graphs.IsRoot.{answer, files, source}
 use Rattle.graph_rules.specs.Next.{IsReadIn}
 use Rattle.graph_rules.specs.Next.IsReadIn.{root, read}
-use Rattle.graph_rules.proofs.NextRules.{all_at, all_from}
+use Rattle.graph_rules.proofs.NextRules.{all_at}
 use Rattle.next_sessions.specs.Nexts.{ReadsOwnFiles}
-use Rattle.audit_graph.proofs.Entries.{contains_first, contains_later}
+use Rattle.audit_graph.proofs.Entries.{contains_there}
+use Rattle.audit_replay.proofs.AgainstRules.{name_in}
 
 -- a tree or a source of a file of the project, or no key of a file
 abbrev IsOwn : Project → Key → Type 0
@@ -40,18 +42,13 @@ IsOwn p (keys.Source f) = Contains (names_of p) f
 IsOwn p (keys.Tree f) = Contains (names_of p) f
 IsOwn p _ = Unit {0}
 
-name_there : (p : Project) (i : ℕ) (f : SourceFile) → slice_get p i ≡ Some f → Contains (names_of p) f.name
-name_there [] i f is = absurd (none-some f is)
-name_there (g ∷ gs) zero f is = subst (λ (x : SourceFile). Contains (names_of (g ∷ gs)) x.name) (same_Some g f is) (contains_first g.name (names_of gs))
-name_there (g ∷ gs) (suc i) f is = contains_later g.name (names_of gs) f.name (name_there gs i f is)
-
 -- the file of a class is one of the project's
 class_file : (p : Project) (c : Name) (k : ClassDecl) → class_at p c ≡ Some k → Contains (names_of p) (file_of_class p k)
 class_file p c k e =
     let s = stands_in p c k e in
     let start : 0 + s.at ≡ s.at = omega arith in
     let file : file_of_class p k ≡ s.file.name = ap (λ n. name_of (slice_get p n)) (s.number ∙ start) ∙ ap name_of s.here in
-    subst (Contains (names_of p)) (sym file) (name_there p s.at s.file s.here)
+    subst (Contains (names_of p)) (sym file) (name_in p s.file (contains_there p s.at s.file s.here))
 
 module _ (profile : Profile) (p : Project) where
   abbrev Own : Key → Type 0

@@ -20,9 +20,9 @@ explained (word ∷ others) =
     word_text word ++ flat_map (λ other. codes "\n" ++ word_text other) others
 
 -- the fault of a word that is no code
-abbrev pub IsFaultOf : List ℕ → ExplainFault → Type 0
-IsFaultOf word (Unknown copy) = string_bytes copy ≡ word
-IsFaultOf word OutOfMemory = Unit {0}
+abbrev pub IsWordFault : List ℕ → ExplainFault → Type 0
+IsWordFault word (Unknown copy) = string_bytes copy ≡ word
+IsWordFault word OutOfMemory = Unit {0}
 
 -- the answer to these words: their texts if each is a code, else the first that is none
 abbrev pub ExplainGives : List (String Global) → Result (String Global) ExplainFault → Type 0

@@ -2,12 +2,12 @@
 use Rattle.std.specs.Prelude.{ℕ, List, Option, map, option_and_then, position, slice_get}
 use Rattle.std.specs.Option.{option_or}
 use Rattle.std.specs.Str.{bytes_eq}
-use Rattle.code_words.specs.declared.chains.TheConstants.{CHAIN_FILES_CODES, CHAIN_FILES_TEXTS, CHAIN_RECORDS_CODES, CHAIN_RECORDS_TEXTS}
-use Rattle.code_words.specs.declared.declarations.TheConstants.{DECLARATIONS_CODES, DECLARATIONS_TEXTS}
-use Rattle.code_words.specs.declared.files.TheConstants.{FILE_PARTS_CODES, FILE_PARTS_TEXTS, FILE_RECORDS_CODES, FILE_RECORDS_TEXTS}
-use Rattle.code_words.specs.declared.phrases.TheConstants.{OPERANDS_CODES, OPERANDS_TEXTS, USES_CODES, USES_TEXTS}
-use Rattle.code_words.specs.declared.project.TheConstants.{PROJECT_CODES, PROJECT_TEXTS}
-use Rattle.code_words.specs.declared.projects.TheConstants.{PROJECTS_CODES, PROJECTS_TEXTS}
+use Rattle.code_words.specs.declared.texts.chains.TheConstants.{CHAIN_FILES_CODES, CHAIN_FILES_TEXTS, CHAIN_RECORDS_CODES, CHAIN_RECORDS_TEXTS}
+use Rattle.code_words.specs.declared.texts.declarations.TheConstants.{DECLARATIONS_CODES, DECLARATIONS_TEXTS}
+use Rattle.code_words.specs.declared.texts.files.TheConstants.{FILE_PARTS_CODES, FILE_PARTS_TEXTS, FILE_RECORDS_CODES, FILE_RECORDS_TEXTS}
+use Rattle.code_words.specs.declared.texts.phrases.TheConstants.{OPERANDS_CODES, OPERANDS_TEXTS, USES_CODES, USES_TEXTS}
+use Rattle.code_words.specs.declared.texts.project.TheConstants.{PROJECT_CODES, PROJECT_TEXTS}
+use Rattle.code_words.specs.declared.texts.projects.TheConstants.{PROJECTS_CODES, PROJECTS_TEXTS}
 
 -- the text that stands at the place of the first of these codes that is the word
 unfoldable pub text_in : List (List ℕ) → List (List ℕ) → List ℕ → Option (List ℕ)

@@ -1,15 +1,15 @@
 //! What is answered to whoever asks for codes.
 ghost use Rattle.std.specs.Prelude.{◌≡◌, ◌++◌, IfOk, OnOk, map, string_bytes};
 ghost use Rattle.std.specs.Option.{option_copied};
-ghost use Rattle.code_words.specs.Explained.{ExplainGives, IsFaultOf, codes_line, diagnostic_lines, explained, first_unknown, refusal_lines, unknown_text_of, word_text};
+ghost use Rattle.code_words.specs.Explained.{ExplainGives, IsWordFault, codes_line, diagnostic_lines, explained, first_unknown, refusal_lines, unknown_text_of, word_text};
 
-use crate::chains::{CHAIN_FILES_CODES, CHAIN_RECORDS_CODES};
-use crate::declarations::DECLARATIONS_CODES;
-use crate::files::{FILE_PARTS_CODES, FILE_RECORDS_CODES};
-use crate::phrases::{OPERANDS_CODES, USES_CODES};
-use crate::project::PROJECT_CODES;
-use crate::projects::PROJECTS_CODES;
 use crate::table::text_of;
+use crate::texts::chains::{CHAIN_FILES_CODES, CHAIN_RECORDS_CODES};
+use crate::texts::declarations::DECLARATIONS_CODES;
+use crate::texts::files::{FILE_PARTS_CODES, FILE_RECORDS_CODES};
+use crate::texts::phrases::{OPERANDS_CODES, USES_CODES};
+use crate::texts::project::PROJECT_CODES;
+use crate::texts::projects::PROJECTS_CODES;
 use std::alloc::{AllocError, Global};
 use std::fmt::Write;
 use thiserror::Error;
@@ -48,7 +48,7 @@ fn unknown_word(asked: &[String]) -> Option<&String>
 
 /// The fault that has a copy of this word.
 fn unknown(alloc: Global, word: &str) -> ExplainFault
-    ensures { IsFaultOf word.now result }
+    ensures { IsWordFault word.now result }
 {
     match String::from_str(alloc, word) {
         Ok(copy) => ExplainFault::Unknown(copy),

@@ -2,15 +2,10 @@
 #![tactic(auto)]
 
 mod asking;
-mod chains;
-mod declarations;
 mod diagnostics;
-mod files;
-mod phrases;
-mod project;
-mod projects;
 mod sentences;
 mod table;
+mod texts;
 
 pub use asking::{ExplainFault, explain, unknown_text};
 pub use diagnostics::sentence;

@@ -4,14 +4,16 @@ ghost use Rattle.std.specs.Option.{option_or};
 ghost use Rattle.std.specs.Str.{bytes_eq};
 ghost use Rattle.code_words.specs.Words.{chain_text, declared_text, diagnostic_text, file_text, phrase_text, refusal_text, session_text, text_in, text_of};
 
-use crate::chains::{
+use crate::texts::chains::{
     CHAIN_FILES_CODES, CHAIN_FILES_TEXTS, CHAIN_RECORDS_CODES, CHAIN_RECORDS_TEXTS,
 };
-use crate::declarations::{DECLARATIONS_CODES, DECLARATIONS_TEXTS};
-use crate::files::{FILE_PARTS_CODES, FILE_PARTS_TEXTS, FILE_RECORDS_CODES, FILE_RECORDS_TEXTS};
-use crate::phrases::{OPERANDS_CODES, OPERANDS_TEXTS, USES_CODES, USES_TEXTS};
-use crate::project::{PROJECT_CODES, PROJECT_TEXTS};
-use crate::projects::{PROJECTS_CODES, PROJECTS_TEXTS};
+use crate::texts::declarations::{DECLARATIONS_CODES, DECLARATIONS_TEXTS};
+use crate::texts::files::{
+    FILE_PARTS_CODES, FILE_PARTS_TEXTS, FILE_RECORDS_CODES, FILE_RECORDS_TEXTS,
+};
+use crate::texts::phrases::{OPERANDS_CODES, OPERANDS_TEXTS, USES_CODES, USES_TEXTS};
+use crate::texts::project::{PROJECT_CODES, PROJECT_TEXTS};
+use crate::texts::projects::{PROJECTS_CODES, PROJECTS_TEXTS};
 
 /// The text that a word asks for, if it is a code.
 pub(crate) fn text_of(word: &str) -> Option<&'static str>

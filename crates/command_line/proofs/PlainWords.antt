@@ -5,6 +5,7 @@ use Rattle.std.specs.List.{list_any}
 use Rattle.std.specs.Option.{option_map_or}
 use Rattle.std.specs.Str.{bytes_eq}
 use Rattle.std.proofs.lemmas.Bool.Decides.{nat_tests}
+use Rattle.std.proofs.lemmas.Bool.{or_parts}
 use Rattle.clap.specs.Faults.{check_fault, default_fault, defaults_fault, flag_word_fault, given_default_fault, settle_fault, step_fault, turn_fault, use_fault, walk_fault, word_fault}
 use Rattle.clap.specs.Kinds.{or_else, range_kinds, values_kinds}
 use Rattle.clap.specs.Lexer.{long_of, usize_max}
@@ -14,17 +15,13 @@ use Rattle.clap.specs.Walk.{Held, Row, Step, Walk, after_step, finished, has_row
 use Rattle.clap.specs.Words.{Kinds, Rule, Text}
 use Rattle.clap.specs.declared.builder.ValueParser.TheVariants as parser
 use Rattle.clap.specs.declared.error.ErrorKind.TheVariants.{MissingRequiredArgument}
-use Rattle.command_line.specs.Given.{Given, given_by, given_in, values_of}
+use Rattle.command_line.specs.Given.{GivenValue, given_by, given_in, values_of}
 use Rattle.command_line.specs.Plain.{dashes, files_of, has_option, is_option}
 use Rattle.command_line.specs.Subcommands.{is_one_or_more}
 use Rattle.command_line.proofs.Options.{help, not_long, plain_fault, plain_met}
 use Rattle.command_line.proofs.Rules.{Flag, Opt, file, file_by_id, flag_as, rule, rules_with, shape_with}
 use Rattle.command_line.proofs.Uses.{defaults_are, flag_part, with_defaults, with_files}
 use Rattle.command_line.proofs.Walks.{Pending, dashes_walked, file_kinds_are, file_taken, held, level, no_command, nothing, pending_of, plain_is, rows_before, some, state, trailing_word, waiting_of, with_file}
-
-neither : (a b : Bool) → (a || b) ≡ false → (a ≡ false) × (b ≡ false)
-neither false b none = (refl, none)
-neither true b none = (none, elim b as (λ t. t ≡ false) [ true ↦ none | false ↦ refl ])
 
 abbrev option_if : Bool → Text → List Text → Bool
 option_if t word rest = if t then false else is_option word || has_option rest
@@ -34,17 +31,17 @@ files_if t word rest = if t then rest else word ∷ files_of rest
 
 -- ---- what plain words give
 
-abbrev files_given : List Text → List Given
+abbrev files_given : List Text → List GivenValue
 files_given files = map (λ file. (None, file)) files
 
-abbrev given_if : Bool → Text → List Text → List Given
+abbrev given_if : Bool → Text → List Text → List GivenValue
 given_if t word rest = if t then files_given rest else given_by word (long_of word) (given_in None rest) (λ name. given_in (Some name) rest)
 
 plain_by : (word : Text) (rest : List Text) (t : Bool) → (has_option rest ≡ false → given_in None rest ≡ files_given (files_of rest))
     → option_if t word rest ≡ false → given_if t word rest ≡ files_given (files_if t word rest)
 plain_by word rest true later none = refl
 plain_by word rest false later none =
-    let parts = neither (is_option word) (has_option rest) none in
+    let parts = or_parts (is_option word) (has_option rest) none in
     ap (λ l. given_by word l (given_in None rest) (λ name. given_in (Some name) rest)) (not_long word parts.0)
     ∙ ap (λ given. (None, word) ∷ given) (later parts.1)
 
@@ -191,7 +188,7 @@ module _ (command : Text) (opts : List Opt) (flag : Option Flag) where
       pass_behind (at files false) (at files true) word rest (files ++ rest) (dashes_pass files word is)
       (dashes_walked command opts flag [] (pending files) word rest is) (trailing_pass files rest)
   pass_by files word rest false is later none =
-      let parts = neither (is_option word) (has_option rest) none in
+      let parts = or_parts (is_option word) (has_option rest) none in
       pass_behind (at files false) (at (files ++ word ∷ []) false) word rest (files ++ word ∷ files_of rest) (plain_passes files word parts.0 is) (plain_taken files word parts.0 is)
       (subst (Pass (at (files ++ word ∷ []) false) rest) (append_assoc files (word ∷ []) (files_of rest)) (later (files ++ word ∷ []) parts.1))
 
@@ -263,7 +260,7 @@ nothing_wanted : (opts : List Opt) (flag : Option Flag) (rows : List Row) → ar
 nothing_wanted [] (Some g) rows optional given = ap (λ t. not t || (false || false)) given
 nothing_wanted [] None rows optional given = ap (λ t. not t || (false || false)) given
 nothing_wanted (o ∷ rest) flag rows optional given =
-    let parts = neither o.required (list_any (λ x. x.required) rest) optional in
+    let parts = or_parts o.required (list_any (λ x. x.required) rest) optional in
     ap (λ t. (t && not (is_given o.name rows)) || list_any (is_wanted rows) (rules_with rest flag)) parts.0
     ∙ nothing_wanted rest flag rows parts.1 given
 

@@ -1,6 +1,6 @@
 -- How the words after the program's name are read.
 use Rattle.std.proofs.Common.{◌≡◌, ◌∙◌, ◌≤◌, ◌<◌, ◌&&◌, ◌||◌, ◌==◌, ◌++◌, inl, inr, ℕ, Bool, true, false, List, [], ◌∷◌, Option, Some, None, cond, codes, refl, sym, ap, ap₂, length, arith, append-nil, append_assoc, not, option_map, is_some, string_bytes, subst, true≢false}
-use Rattle.std.proofs.lemmas.Bool.{not-true}
+use Rattle.std.proofs.lemmas.Bool.{not-true, and_parts}
 use Rattle.std.proofs.lemmas.Option.{none-some, same_Some}
 use Rattle.std.specs.Prelude.{drop, fold, if◌then◌else◌, option_and_then, slice_get}
 use Rattle.std.specs.List.{list_any}
@@ -21,12 +21,12 @@ use Rattle.clap.specs.declared.parser.matches.SubCommand.{SubCommand}
 use Rattle.std.specs.Box.{box_value}
 use Rattle.std.specs.Prelude.{Box, String}
 use Rattle.command_line.specs.CommandLine.{Asks, AsksFor}
-use Rattle.command_line.specs.Given.{AreOptionsOf, IsFlagOf, IsNumberOf, IsTextOf, are_of, decimal, given_in, values_of}
-use Rattle.command_line.specs.Matches.{AreEnough, AreMet, AreOptionsIn, has_flag, number_in, rows_in}
+use Rattle.command_line.specs.Given.{AreOptionsOf, IsFlagOf, IsNumberOf, IsTextOf, are_of, decimal_value, given_in, values_of}
+use Rattle.command_line.specs.Matches.{AreEnough, AreMet, AreOptionsIn, has_flag, option_number, met_rows}
 use Rattle.command_line.specs.Plain.{HasDefaults, IsPlain, are_plain, asks_plainly, dashes, files_for, files_of, has_option, taken_by}
 use Rattle.command_line.specs.Program.{program_app}
 use Rattle.command_line.specs.Runnable.{subcommand_of as asked_of}
-use Rattle.command_line.specs.Subcommands.{is_flag, is_one_or_more, is_repeatable, name_of, options_of, wants_files_alone}
+use Rattle.command_line.specs.Subcommands.{is_flag, is_one_or_more, is_repeatable, word_for, options_of, wants_files_alone}
 use Rattle.command_line.specs.declared.asked.Subcommand.{Subcommand}
 use Rattle.command_line.specs.declared.asked.Subcommand.TheVariants.{Scratch, Check, Audit, Show, Why, Explain}
 use Rattle.command_line.specs.declared.asked.Words.{Words}
@@ -106,13 +106,13 @@ turn_of m word = or_else (other_fault top m word nothing_held) (step_fault top 1
 
 -- the faults of a subcommand on the words after it
 abbrev level_of : Subcommand → List Text → Kinds
-level_of c rest = level (name_of c) (options c) (flag_of c) rest
+level_of c rest = level (word_for c) (options c) (flag_of c) rest
 
 -- its rows
 unfoldable rows_of : Subcommand → List Text → List Row
 rows_of c rest = rows_after (rules_with (options c) (flag_of c)) [] rest
 
-name_walked : (c : Subcommand) → walked top.rules commands start (name_of c) ≡ stopped_at (name_of c) []
+name_walked : (c : Subcommand) → walked top.rules commands start (word_for c) ≡ stopped_at (word_for c) []
 unfolding walked
 name_walked Scratch = refl
 name_walked Check = refl
@@ -121,7 +121,7 @@ name_walked Show = refl
 name_walked Why = refl
 name_walked Explain = refl
 
-name_turn : (c : Subcommand) → turn_fault top commands start (name_of c) ≡ []
+name_turn : (c : Subcommand) → turn_fault top commands start (word_for c) ≡ []
 name_turn Scratch = refl
 name_turn Check = refl
 name_turn Audit = refl
@@ -129,7 +129,7 @@ name_turn Show = refl
 name_turn Why = refl
 name_turn Explain = refl
 
-level_is : (c : Subcommand) (rest : List Text) → end_fault (stopped_at (name_of c) rest) [] ≡ or_else (level_of c rest) []
+level_is : (c : Subcommand) (rest : List Text) → end_fault (stopped_at (word_for c) rest) [] ≡ or_else (level_of c rest) []
 unfolding defaults_fault
 level_is Scratch rest = refl
 level_is Check rest = refl
@@ -138,7 +138,7 @@ level_is Show rest = refl
 level_is Why rest = refl
 level_is Explain rest = refl
 
-rows_are : (c : Subcommand) (rest : List Text) → entered program (Some (name_of c, rest)) ≡ Some (name_of c, rows_of c rest)
+rows_are : (c : Subcommand) (rest : List Text) → entered program (Some (word_for c, rest)) ≡ Some (word_for c, rows_of c rest)
 unfolding rows_of
 rows_are Scratch rest = refl
 rows_are Check rest = refl
@@ -148,20 +148,20 @@ rows_are Why rest = refl
 rows_are Explain rest = refl
 
 module _ (c : Subcommand) (rest : List Text) where
-  walk_is : walk_of (name_of c ∷ rest) ≡ stopped_at (name_of c) rest
-  walk_is = ap (λ (w : Walk). fold (walked top.rules commands) w rest) (name_walked c) ∙ stopped_walk (name_of c) [] rest
+  walk_is : walk_of (word_for c ∷ rest) ≡ stopped_at (word_for c) rest
+  walk_is = ap (λ (w : Walk). fold (walked top.rules commands) w rest) (name_walked c) ∙ stopped_walk (word_for c) [] rest
 
-  kinds_are : kinds_of (name_of c ∷ rest) ≡ []
+  kinds_are : kinds_of (word_for c ∷ rest) ≡ []
   unfolding walk_fault
   kinds_are =
-      ap (λ k. or_else k (walk_fault top commands (walked top.rules commands start (name_of c)) rest)) (name_turn c)
-      ∙ (ap (λ (w : Walk). walk_fault top commands w rest) (name_walked c) ∙ stopped_passes (name_of c) [] rest)
+      ap (λ k. or_else k (walk_fault top commands (walked top.rules commands start (word_for c)) rest)) (name_turn c)
+      ∙ (ap (λ (w : Walk). walk_fault top commands w rest) (name_walked c) ∙ stopped_passes (word_for c) [] rest)
 
   -- the faults are those of the subcommand
-  fault_is : (name : Text) → fault_of program_app (name ∷ name_of c ∷ rest) ≡ or_else (level_of c rest) []
+  fault_is : (name : Text) → fault_of program_app (name ∷ word_for c ∷ rest) ≡ or_else (level_of c rest) []
   fault_is name = ap₂ end_fault walk_is kinds_are ∙ level_is c rest
 
-  entered_is_of : (name : Text) → subcommand_of program_app (name ∷ name_of c ∷ rest) ≡ Some (name_of c, rows_of c rest)
+  entered_is_of : (name : Text) → subcommand_of program_app (name ∷ word_for c ∷ rest) ≡ Some (word_for c, rows_of c rest)
   entered_is_of name = ap (λ (w : Walk). entered program w.stopped) walk_is ∙ rows_are c rest
 
 or_none : (kinds : Kinds) → or_else kinds [] ≡ kinds
@@ -174,12 +174,12 @@ or_none (kind ∷ rest) = refl
 stray : (h : Held) → IsFault (step_fault top 1 h value)
 stray h = is_fault _ _
 
-module _ (name command : Text) (no_name : (c : Subcommand) → bytes_eq (name_of c) command ≡ false) where
-  passed : (c : Subcommand) (other : Option (Text × List Text)) → found_if (bytes_eq (name_of c) command) (name_of c) other ≡ other
-  passed c other = ap (λ t. found_if t (name_of c) other) (no_name c)
+module _ (name command : Text) (no_name : (c : Subcommand) → bytes_eq (word_for c) command ≡ false) where
+  passed : (c : Subcommand) (other : Option (Text × List Text)) → found_if (bytes_eq (word_for c) command) (word_for c) other ≡ other
+  passed c other = ap (λ t. found_if t (word_for c) other) (no_name c)
 
   abbrev from : Subcommand → Option (Text × List Text) → Option (Text × List Text)
-  from c other = found_if (bytes_eq (name_of c) command) (name_of c) other
+  from c other = found_if (bytes_eq (word_for c) command) (word_for c) other
 
   abbrev help_if : Bool → Option (Text × List Text)
   help_if t = found_if t (codes "help") None
@@ -264,12 +264,12 @@ record IsFoundIn (words : List Text) : Type 0 where
   subcommand : Subcommand
   asked : AsksFor words subcommand
   passes : level_of subcommand (drop 2 words) ≡ []
-  entered_is : subcommand_of program_app words ≡ Some (name_of subcommand, rows_of subcommand (drop 2 words))
+  entered_is : subcommand_of program_app words ≡ Some (word_for subcommand, rows_of subcommand (drop 2 words))
 
-found_at : (c : Subcommand) (name command : Text) (rest : List Text) → bytes_eq (name_of c) command ≡ true → fault_of program_app (name ∷ command ∷ rest) ≡ []
+found_at : (c : Subcommand) (name command : Text) (rest : List Text) → bytes_eq (word_for c) command ≡ true → fault_of program_app (name ∷ command ∷ rest) ≡ []
     → IsFoundIn (name ∷ command ∷ rest)
 found_at c name command rest is none =
-    let same : name_of c ≡ command = (bytes_eq-Decides (name_of c) command).0 is in
+    let same : word_for c ≡ command = (bytes_eq-Decides (word_for c) command).0 is in
     let faults : fault_of program_app (name ∷ command ∷ rest) ≡ or_else (level_of c rest) [] =
     ap (λ w. fault_of program_app (name ∷ w ∷ rest)) (sym same) ∙ fault_is c rest name in
     record {
@@ -292,7 +292,7 @@ found_by name command rest false false false false false true is_s is_k is_a is_
 found_by name command rest false false false false false false is_s is_k is_a is_w is_y is_e none =
     absurd (other_refused name command no_name (bytes_eq (codes "help") command) refl rest none)
   where
-    no_name : (c : Subcommand) → bytes_eq (name_of c) command ≡ false
+    no_name : (c : Subcommand) → bytes_eq (word_for c) command ≡ false
     no_name Scratch = is_s
     no_name Check = is_k
     no_name Audit = is_a
@@ -318,8 +318,8 @@ module _ {Z : Type 0} where
 pub record HasRead (words : List Text) (m : ArgMatches) : Type 0 where
   pub subcommand : Subcommand
   pub asked : AsksFor words subcommand
-  pub name : subcommand_name_of m ≡ Some (name_of subcommand)
-  pub read : IsRead (options subcommand) (flag_of subcommand) (drop 2 words) (rows_in m)
+  pub name : subcommand_name_of m ≡ Some (word_for subcommand)
+  pub read : IsRead (options subcommand) (flag_of subcommand) (drop 2 words) (met_rows m)
 
 found_read : (words : List Text) (m : ArgMatches) → subcommand_rows_of m ≡ subcommand_of program_app words → IsFoundIn words → HasRead words m
 unfolding rows_of
@@ -330,7 +330,7 @@ found_read words m matches is =
       subcommand = is.subcommand;
       asked = is.asked;
       name = name-subcommand_rows (out-ArgMatches m).subcommand ∙ ap (option_map (λ (p : Text × List Row). p.0)) met;
-      read = subst (IsRead (options is.subcommand) (flag_of is.subcommand) (drop 2 words)) (sym rows) (read (name_of is.subcommand) (options is.subcommand) (flag_of is.subcommand) (drop 2 words) is.passes);
+      read = subst (IsRead (options is.subcommand) (flag_of is.subcommand) (drop 2 words)) (sym rows) (read (word_for is.subcommand) (options is.subcommand) (flag_of is.subcommand) (drop 2 words) is.passes);
     }
 
 -- a parse that succeeds
@@ -346,7 +346,7 @@ named name = cond (bytes_eq (codes "scratch") name) (Some Scratch) (cond (bytes_
     (cond (bytes_eq (codes "audit") name) (Some Audit) (cond (bytes_eq (codes "show") name) (Some Show)
     (cond (bytes_eq (codes "why") name) (Some Why) (cond (bytes_eq (codes "explain") name) (Some Explain) None)))))
 
-named_as : (c : Subcommand) → named (name_of c) ≡ Some c
+named_as : (c : Subcommand) → named (word_for c) ≡ Some c
 named_as Scratch = refl
 named_as Check = refl
 named_as Audit = refl
@@ -355,7 +355,7 @@ named_as Why = refl
 named_as Explain = refl
 
 -- no two subcommands have one name
-same_subcommand : (c d : Subcommand) → name_of c ≡ name_of d → c ≡ d
+same_subcommand : (c d : Subcommand) → word_for c ≡ word_for d → c ≡ d
 same_subcommand c d same = same_Some c d (sym (named_as c) ∙ (ap named same ∙ named_as d))
 
 -- ---- what was met is what the words ask for
@@ -373,7 +373,7 @@ one_value [] x few first = absurd (none-some x first)
 one_value (v ∷ []) x few first = ap (λ y. y ∷ []) (same_Some v x first)
 one_value (v ∷ u ∷ vs) x few first = absurd (true≢false (sym few))
 
-number_of : (vs : List Text) (n : ℕ) → is_few vs ≡ true → option_map_or decimal (slice_get vs 0) 1 ≡ n → IsNumberOf vs n
+number_of : (vs : List Text) (n : ℕ) → is_few vs ≡ true → option_map_or decimal_value (slice_get vs 0) 1 ≡ n → IsNumberOf vs n
 number_of [] n few is = sym is
 number_of (v ∷ []) n few is = sym is
 number_of (v ∷ u ∷ vs) n few is = absurd (true≢false (sym few))
@@ -386,9 +386,9 @@ text_of (v ∷ u ∷ vs) text few is = absurd (true≢false (sym few))
 module _ (words : List Text) (c : Subcommand) (rows : List Row) (is : IsRead (options c) (flag_of c) words rows) where
   -- the number of an option
   number_read : (name : Text) (n : ℕ) → bytes_eq (codes "FILE") name ≡ false → is_repeatable name ≡ false → is_flag name ≡ false
-      → number_in name rows ≡ n → IsNumberOf (values_of (Some name) (given_in None words)) n
+      → option_number name rows ≡ n → IsNumberOf (values_of (Some name) (given_in None words)) n
   number_read name n part once valued number = subst (λ vs. IsNumberOf vs n) (is.values (Some name) part valued)
-      (number_of (told name rows) n (is.few name part once valued) (sym (ap (λ o. option_map_or decimal o 1) (first_told name rows)) ∙ number))
+      (number_of (told name rows) n (is.few name part once valued) (sym (ap (λ o. option_map_or decimal_value o 1) (first_told name rows)) ∙ number))
 
   value_read : (name v : Text) → bytes_eq (codes "FILE") name ≡ false → is_repeatable name ≡ false → is_flag name ≡ false
       → first_of name rows ≡ Some v → values_of (Some name) (given_in None words) ≡ v ∷ []
@@ -432,19 +432,15 @@ asked_are_met words m w is met =
     let same : is.subcommand ≡ asked_of w = same_subcommand is.subcommand (asked_of w) (same_Some _ _ (sym is.name ∙ met.name)) in
     let rest = drop 2 words in
     record {
-      subcommand = is.asked ∙ ap (λ c. Some (name_of c)) same;
+      subcommand = is.asked ∙ ap (λ c. Some (word_for c)) same;
       known = subst (λ names. are_of names (given_in None rest) ≡ true) (names_are is.subcommand ∙ ap options_of same) is.read.known;
       gives = record {
-        options = options_read rest is.subcommand (rows_in m) is.read w same met.options;
+        options = options_read rest is.subcommand (met_rows m) is.read w same met.options;
         files = sym (is.read.values None tt refl) ∙ met.files;
       };
     }
 
 -- ---- plain words
-
-both : (a b : Bool) → (a && b) ≡ true → (a ≡ true) × (b ≡ true)
-both true b is = (refl, is)
-both false b is = absurd (true≢false (sym is))
 
 -- the FILEs are enough, and there is no option
 record ArePlain (c : Subcommand) (rest files : List Text) : Type 0 where
@@ -458,8 +454,8 @@ taken_if t rest = if t then Some (files_of rest) else None
 
 plain_rest : (c : Subcommand) (rest files : List Text) (t : Bool) → are_plain c rest ≡ t → taken_if t rest ≡ Some files → ArePlain c rest files
 plain_rest c rest files true is taken =
-    let first = both (wants_files_alone c) (is_one_or_more (files_of rest) && not (has_option rest)) is in
-    let second = both (is_one_or_more (files_of rest)) (not (has_option rest)) first.1 in
+    let first = and_parts (wants_files_alone c) (is_one_or_more (files_of rest) && not (has_option rest)) is in
+    let second = and_parts (is_one_or_more (files_of rest)) (not (has_option rest)) first.1 in
     record { alone = first.0; enough = second.0; no_option = not-true (has_option rest) second.1; files_are = same_Some _ _ taken }
 plain_rest c rest files false is taken = absurd (none-some files taken)
 
@@ -471,10 +467,10 @@ record AsksPlainly (c : Subcommand) (words files : List Text) : Type 0 where
   asked : AsksFor words c
   plain : ArePlain c (drop 2 words) files
 
-plain_by : (c : Subcommand) (name command : Text) (rest files : List Text) (t : Bool) → bytes_eq (name_of c) command ≡ t → behind_if c t rest ≡ Some files
+plain_by : (c : Subcommand) (name command : Text) (rest files : List Text) (t : Bool) → bytes_eq (word_for c) command ≡ t → behind_if c t rest ≡ Some files
     → AsksPlainly c (name ∷ command ∷ rest) files
 plain_by c name command rest files true is taken = record {
-  asked = ap (λ w. Some w) (sym ((bytes_eq-Decides (name_of c) command).0 is));
+  asked = ap (λ w. Some w) (sym ((bytes_eq-Decides (word_for c) command).0 is));
   plain = plain_rest c rest files (are_plain c rest) refl taken;
 }
 plain_by c name command rest files false is taken = absurd (none-some files taken)
@@ -482,7 +478,7 @@ plain_by c name command rest files false is taken = absurd (none-some files take
 asks : (c : Subcommand) (words files : List Text) → files_for c words ≡ Some files → AsksPlainly c words files
 asks c [] files is = absurd (none-some files is)
 asks c (name ∷ []) files is = absurd (none-some files is)
-asks c (name ∷ command ∷ rest) files is = plain_by c name command rest files (bytes_eq (name_of c) command) refl is
+asks c (name ∷ command ∷ rest) files is = plain_by c name command rest files (bytes_eq (word_for c) command) refl is
 
 is_given : (o : Option (List Text)) → is_some o ≡ true → (files : List Text) × (o ≡ Some files)
 is_given None is = absurd (true≢false (sym is))
@@ -504,11 +500,11 @@ taken : (c : Subcommand) (words files : List Text) → AsksPlainly c words files
 taken c [] files plain most = absurd (none-some _ plain.asked)
 taken c (name ∷ []) files plain most = absurd (none-some _ plain.asked)
 taken c (name ∷ command ∷ rest) files is most =
-    let same : command ≡ name_of c = same_Some _ _ is.asked in
+    let same : command ≡ word_for c = same_Some _ _ is.asked in
     let within = files_within rest in
     ap (λ w. fault_of program_app (name ∷ w ∷ rest)) same
     ∙ (fault_is c rest name
-    ∙ ap (λ k. or_else k []) (level_taken (name_of c) (options c) (flag_of c) (optional c is.plain.alone) rest is.plain.no_option is.plain.enough (omega (arith, within, most))))
+    ∙ ap (λ k. or_else k []) (level_taken (word_for c) (options c) (flag_of c) (optional c is.plain.alone) rest is.plain.no_option is.plain.enough (omega (arith, within, most))))
 
 -- a parse of words that ask plainly fails only because memory runs out
 pub only_memory : (app : App) (c : Subcommand) (words files : List Text) (e : Error) → app ≡ program_app → files_for c words ≡ Some files → length words ≤ usize_max
@@ -561,16 +557,16 @@ module _ (c : Subcommand) (words files : List Text) (plain : files_for c words �
   }
 
   module _ (m : ArgMatches) (is : HasRead words m) where
-    pub plain_named : subcommand_name_of m ≡ Some (name_of c)
+    pub plain_named : subcommand_name_of m ≡ Some (word_for c)
     plain_named = is.name ∙ (sym is.asked ∙ asked_plainly.asked)
 
     -- the rows have no value of an option
-    nothing_first : (name : Text) → bytes_eq (codes "FILE") name ≡ false → is_flag name ≡ false → first_of name (rows_in m) ≡ None
-    nothing_first name part valued = first_told name (rows_in m)
+    nothing_first : (name : Text) → bytes_eq (codes "FILE") name ≡ false → is_flag name ≡ false → first_of name (met_rows m) ≡ None
+    nothing_first name part valued = first_told name (met_rows m)
         ∙ ap (λ vs. slice_get vs 0) (is.read.values (Some name) part valued ∙ plain_options name (drop 2 words) asked_plainly.plain.no_option)
 
     -- the rows have FILEs that are enough
-    pub plain_enough : AreEnough c (rows_in m)
+    pub plain_enough : AreEnough c (met_rows m)
     plain_enough = record {
       alone = asked_plainly.plain.alone;
       files = ap is_one_or_more (is.read.values None tt refl ∙ plain_files (drop 2 words) asked_plainly.plain.no_option) ∙ asked_plainly.plain.enough;

@@ -1,8 +1,9 @@
 -- What the rows of a parse have of an argument.
-use Rattle.std.proofs.Common.{◌≡◌, ◌∙◌, ◌||◌, ◌++◌, Bool, true, false, List, [], ◌∷◌, Option, Some, None, cond, refl, ap, true≢false}
+use Rattle.std.proofs.Common.{◌≡◌, ◌∙◌, ◌++◌, Bool, true, false, List, [], ◌∷◌, Option, Some, None, cond, refl, ap}
 use Rattle.std.proofs.lemmas.Slice.Eq.{bytes_eq-Decides}
 use Rattle.std.specs.Prelude.{find, if◌then◌else◌, option_and_then, option_map, slice_get, unwrap_or}
 use Rattle.std.specs.Str.{bytes_eq}
+use Rattle.std.proofs.lemmas.Bool.{or_parts}
 use Rattle.clap.specs.Walk.{Row, first_of, has_row, more_values, with_values, without}
 use Rattle.clap.specs.Words.{Text, all_of}
 use Rattle.clap.specs.declared.builder.value_parser.Reading.{Reading}
@@ -47,21 +48,17 @@ module _ (id other : Text) (how : Reading) (s : ValueSource) (vs : List Text) (a
   others_told [] = rw apart refl
   others_told (r ∷ rest) = others_by r rest (bytes_eq r.id id) refl (others_told rest)
 
-neither : (a b : Bool) → (a || b) ≡ false → (a ≡ false) × (b ≡ false)
-neither false b none = (refl, none)
-neither true b none = absurd (true≢false none)
-
 -- where there is no row of an argument
 pub without_none : (id : Text) (rows : List Row) → has_row id rows ≡ false → without id rows ≡ rows
 without_none id [] none = refl
 without_none id (r ∷ rest) none =
-    let parts = neither (bytes_eq r.id id) (has_row id rest) none in
+    let parts = or_parts (bytes_eq r.id id) (has_row id rest) none in
     rw parts.0 (ap (λ rs. r ∷ rs) (without_none id rest parts.1))
 
 pub told_none : (id : Text) (rows : List Row) → has_row id rows ≡ false → told id rows ≡ []
 told_none id [] none = refl
 told_none id (r ∷ rest) none =
-    let parts = neither (bytes_eq r.id id) (has_row id rest) none in
+    let parts = or_parts (bytes_eq r.id id) (has_row id rest) none in
     rw parts.0 (told_none id rest parts.1)
 
 pub first_told : (id : Text) (rows : List Row) → first_of id rows ≡ slice_get (told id rows) 0

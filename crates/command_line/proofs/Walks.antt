@@ -4,13 +4,14 @@ use Rattle.std.specs.Prelude.{fold, if◌then◌else◌}
 use Rattle.std.specs.List.{list_any}
 use Rattle.std.specs.Option.{option_map_or}
 use Rattle.std.specs.Str.{bytes_eq}
+use Rattle.std.proofs.lemmas.Bool.{and_from}
 use Rattle.clap.specs.Faults.{check_fault, defaults_fault, flag_word_fault, level_fault, long_fault, positional_fault, settle_fault, step_fault, stray_fault, turn_fault, use_fault, walk_fault, word_fault}
 use Rattle.clap.specs.Kinds.{or_else}
 use Rattle.clap.specs.Lexer.{long_of, short_of}
 use Rattle.clap.specs.Simple.{Shape}
 use Rattle.clap.specs.Walk.{Held, Row, Step, Waiting, Walk, after_flag, after_step, arg_by_id, arg_by_long, finished, idle, is_pending, long_met, long_or_other, next, nothing_held, option, option_word, plain_word, positional, pushed, rows_after, settled, settled_rows, subcommand_met, subcommand_or_other, to_positional, trailing, used, used_by_id, value, walked, word_met}
 use Rattle.clap.specs.Words.{Kinds, Rule, Text}
-use Rattle.command_line.specs.Given.{Given, are_of, given_by, given_in, given_to, values_of}
+use Rattle.command_line.specs.Given.{GivenValue, are_of, given_by, given_in, given_to, values_of}
 use Rattle.command_line.specs.Matches.{has_flag}
 use Rattle.command_line.specs.Plain.{dashes}
 use Rattle.command_line.specs.Subcommands.{is_flag, is_repeatable}
@@ -19,9 +20,6 @@ use Rattle.command_line.proofs.Options.{flag_fault, flag_met, help, long_is_faul
 use Rattle.command_line.proofs.Rules.{Flag, IsFlagged, IsFound, IsOther, Opt, file, file_by_id, file_by_index, flag_as, is_long, names, rule, rules_with, same_bytes, shape_with, short_flags}
 use Rattle.command_line.proofs.ToldRows.{told}
 use Rattle.command_line.proofs.Uses.{AreFew, IsPart, Part, defaults_apart, defaults_are, files_few, files_for, files_told, flag_few, flag_kinds, flag_part, flag_set, flag_told as flag_adds, id_of, is_few, use_few, use_kinds, use_told, value_for, with_defaults, with_files, with_flag, with_use}
-
-and_both : {a b : Bool} → a ≡ true → b ≡ true → (a && b) ≡ true
-and_both {a} {b} first second = ap (λ t. t && b) first ∙ second
 
 -- an option of these, which is found by its name
 pub record Choice (opts : List Opt) (flag : Option Flag) : Type 0 where
@@ -240,7 +238,7 @@ module _ (command : Text) (opts : List Opt) (flag : Option Flag) where
   last rows p t words = (settled rules (end rows p t words)).rows
 
   -- each part has at the end what it has now, what is pending for it and what these values give it; no other option is given
-  record IsReadTo (rows : List Row) (p : Pending opts flag) (t : Bool) (words : List Text) (given : List Given) : Type 0 where
+  record IsReadTo (rows : List Row) (p : Pending opts flag) (t : Bool) (words : List Text) (given : List GivenValue) : Type 0 where
     values : (b : Part) → IsPart b → told (id_of b) (last rows p t words) ≡ (told (id_of b) rows ++ pend b p) ++ values_of b given
     few : AreFew rows → AreFew (last rows p t words)
     known : are_of (names opts flag) given ≡ true
@@ -257,11 +255,11 @@ module _ (command : Text) (opts : List Opt) (flag : Option Flag) where
   }
 
   -- one FILE more
-  values_more : (b : Part) (word : Text) (given : List Given) → values_of b ((None, word) ∷ given) ≡ file_for b word ++ values_of b given
+  values_more : (b : Part) (word : Text) (given : List GivenValue) → values_of b ((None, word) ∷ given) ≡ file_for b word ++ values_of b given
   values_more None word given = refl
   values_more (Some name) word given = refl
 
-  file_read : (rows : List Row) (p : Pending opts flag) (t : Bool) (word : Text) (rest : List Text) (given : List Given) → walked rules [] (state rows p t) word ≡ state (rows_before rows p) (with_file p word) t
+  file_read : (rows : List Row) (p : Pending opts flag) (t : Bool) (word : Text) (rest : List Text) (given : List GivenValue) → walked rules [] (state rows p t) word ≡ state (rows_before rows p) (with_file p word) t
       → file_kinds rows p ≡ [] → IsReadTo (rows_before rows p) (with_file p word) t rest given → IsReadTo rows p t (word ∷ rest) ((None, word) ∷ given)
   file_read rows p t word rest given is none later = record {
     values = λ b part. ap (λ (w : Walk). told (id_of b) (settled rules (fold (walked rules []) w rest).held).rows) is
@@ -292,7 +290,7 @@ module _ (command : Text) (opts : List Opt) (flag : Option Flag) where
   turn_passes rows p t word rest pass =
       (no_faults (turn_fault s [] (state rows p t) word) (walk_fault s [] (walked rules [] (state rows p t) word) rest) pass.0).0
 
-  abbrev files_given : List Text → List Given
+  abbrev files_given : List Text → List GivenValue
   files_given words = map (λ file. (None, file)) words
 
   trailing_read : (words : List Text) (rows : List Row) (p : Pending opts flag) → Passes rows p true words → IsReadTo rows p true words (files_given words)
@@ -343,7 +341,7 @@ module _ (command : Text) (opts : List Opt) (flag : Option Flag) where
     unfolding walked
     dashes_walked is = ap (λ m. stepped (other_word m)) (no_command p word) ∙ ap (λ t. stepped (dashes_if t)) is
 
-    abbrev given_if : Bool → List Given
+    abbrev given_if : Bool → List GivenValue
     given_if t = if t then files_given rest else given_by word (long_of word) (given_in None rest) (λ name. given_in (Some name) rest)
 
     dashes_given : mode_of p ≡ None → bytes_eq word dashes ≡ true → given_in (mode_of p) (word ∷ rest) ≡ files_given rest
@@ -411,7 +409,7 @@ module _ (command : Text) (opts : List Opt) (flag : Option Flag) where
     name_passes o none = none
 
   -- the values of one option more
-  values_of_option : (b : Part) (name v : Text) (given : List Given) → values_of b ((Some name, v) ∷ given) ≡ value_for b name v ++ values_of b given
+  values_of_option : (b : Part) (name v : Text) (given : List GivenValue) → values_of b ((Some name, v) ∷ given) ≡ value_for b name v ++ values_of b given
   values_of_option None name v given = refl
   values_of_option (Some other) name v given = named (bytes_eq other name)
     where
@@ -420,7 +418,7 @@ module _ (command : Text) (opts : List Opt) (flag : Option Flag) where
       named false = refl
 
   module _ (rows : List Row) (p : Pending opts flag) (word : Text) (rest : List Text) where
-    value_told : (o : Opt) (v : Text) → settle rows p ≡ [] → use_kinds o v (after rows p) ≡ [] → (b : Part) → IsPart b → (given : List Given)
+    value_told : (o : Opt) (v : Text) → settle rows p ≡ [] → use_kinds o v (after rows p) ≡ [] → (b : Part) → IsPart b → (given : List GivenValue)
         → (told (id_of b) (with_use o v (after rows p)) ++ []) ++ values_of b given ≡ (told (id_of b) rows ++ pend b p) ++ values_of b ((Some o.name, v) ∷ given)
     value_told o v settles uses b part given =
         let values = values_of b given in
@@ -429,7 +427,7 @@ module _ (command : Text) (opts : List Opt) (flag : Option Flag) where
         ∙ (use_told o v (after rows p) uses b ∙ ap (λ x. x ++ value_for b o.name v) (settle_told p rows settles b part)))
         ∙ (append_assoc before (value_for b o.name v) values ∙ ap (λ x. before ++ x) (sym (values_of_option b o.name v given)))
 
-    flag_told : (g : Flag) → settle rows p ≡ [] → flag_kinds g (after rows p) ≡ [] → (b : Part) → IsPart b → (given : List Given)
+    flag_told : (g : Flag) → settle rows p ≡ [] → flag_kinds g (after rows p) ≡ [] → (b : Part) → IsPart b → (given : List GivenValue)
         → (told (id_of b) (with_flag g (after rows p)) ++ []) ++ values_of b given
         ≡ (told (id_of b) rows ++ pend b p) ++ values_of b ((Some g.name, codes "true") ∷ given)
     flag_told g settles uses b part given =
@@ -440,14 +438,14 @@ module _ (command : Text) (opts : List Opt) (flag : Option Flag) where
         ∙ (flag_adds g (after rows p) uses b ∙ ap (λ x. x ++ more) (settle_told p rows settles b part)))
         ∙ (append_assoc before more values ∙ ap (λ x. before ++ x) (sym (values_of_option b g.name (codes "true") given)))
 
-    name_told : settle rows p ≡ [] → (b : Part) → IsPart b → (given : List Given) → (told (id_of b) (after rows p) ++ []) ++ values_of b given
+    name_told : settle rows p ≡ [] → (b : Part) → IsPart b → (given : List GivenValue) → (told (id_of b) (after rows p) ++ []) ++ values_of b given
         ≡ (told (id_of b) rows ++ pend b p) ++ values_of b given
     name_told settles b part given =
         ap (λ x. x ++ values_of b given) (append-nil (told (id_of b) (after rows p)) ∙ settle_told p rows settles b part)
 
     -- what is read behind this word is what is read from it
-    read_from : (rows_next : List Row) (q : Pending opts flag) (u : Bool) (given : List Given) → walked rules [] (state rows p false) word ≡ state rows_next q u
-        → IsReadTo rows_next q u rest given → (all : List Given)
+    read_from : (rows_next : List Row) (q : Pending opts flag) (u : Bool) (given : List GivenValue) → walked rules [] (state rows p false) word ≡ state rows_next q u
+        → IsReadTo rows_next q u rest given → (all : List GivenValue)
         → ((b : Part) → IsPart b → (told (id_of b) rows_next ++ pend b q) ++ values_of b given ≡ (told (id_of b) rows ++ pend b p) ++ values_of b all)
         → (AreFew rows → AreFew rows_next) → are_of (names opts flag) all ≡ true → IsReadTo rows p false (word ∷ rest) all
     read_from rows_next q u given is later all told_is few_is known = record {
@@ -460,7 +458,7 @@ module _ (command : Text) (opts : List Opt) (flag : Option Flag) where
       turn_is : turn_fault s [] (state rows p false) word ≡ []
       turn_is = turn_passes rows p false word rest pass
 
-      abbrev unless_flag : Text → Bool → List Given
+      abbrev unless_flag : Text → Bool → List GivenValue
       unless_flag name t = if t then (Some name, codes "true") ∷ given_in None rest else given_in (Some name) rest
 
       option_given : (name : Text) (v : Option Text) → long_of word ≡ Some (name, v) → mode_of p ≡ None
@@ -480,7 +478,7 @@ module _ (command : Text) (opts : List Opt) (flag : Option Flag) where
           (read_from rows_next nothing false (given_in None rest) is later ((Some name, v) ∷ given_in None rest)
           (λ b part. value_told o.option v passes.0 passes.1 b part (given_in None rest))
           (λ few. use_few o.option v (after rows p) passes.1 (settle_few p rows passes.0 few))
-          (and_both o.among later.known))
+          (and_from _ _ o.among later.known))
 
       name_read : (o : Choice opts flag) → long_of word ≡ Some (o.option.name, None) → arg_by_long rules o.option.name ≡ Some (rule o.option)
           → IsReadTo rows p false (word ∷ rest) (given_in (mode_of p) (word ∷ rest))
@@ -522,7 +520,7 @@ module _ (command : Text) (opts : List Opt) (flag : Option Flag) where
           (read_from rows_next nothing false (given_in None rest) is later given
           (λ b part. flag_told g passes.0 passes.1 b part (given_in None rest))
           (λ few. flag_few g (after rows p) passes.1 (settle_few p rows passes.0 few))
-          (and_both among later.known))
+          (and_from _ _ among later.known))
 
       other_long_read : (name : Text) (v : Option Text) → long_of word ≡ Some (name, v) → IsFlagged opts flag name ⊎ IsOther opts flag name
           → IsReadTo rows p false (word ∷ rest) (given_in (mode_of p) (word ∷ rest))
@@ -576,7 +574,7 @@ module _ (command : Text) (opts : List Opt) (flag : Option Flag) where
         (λ b part. append_assoc (told (id_of b) rows) (value_for b o.option.name word) (values_of b given)
         ∙ (ap (λ x. told (id_of b) rows ++ x) (sym (values_of_option b o.option.name word given))
         ∙ ap (λ x. x ++ values_of b ((Some o.option.name, word) ∷ given)) (sym (append-nil (told (id_of b) rows)))))
-        (λ few. few) (and_both o.among later.known)
+        (λ few. few) (and_from _ _ o.among later.known)
 
     -- a FILE
     plain_file : (p : Pending opts flag) → walked rules [] (state rows p false) word ≡ state (rows_before rows p) (with_file p word) false → file_kinds rows p ≡ []

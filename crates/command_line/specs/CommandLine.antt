@@ -2,13 +2,13 @@
 use Rattle.std.specs.Prelude.{◌≡◌, IsTrue, List, None, Some, drop, slice_get}
 use Rattle.command_line.specs.Given.{IsGivenBy, are_of, given_in}
 use Rattle.command_line.specs.Runnable.{subcommand_of}
-use Rattle.command_line.specs.Subcommands.{Text, name_of, options_of}
+use Rattle.command_line.specs.Subcommands.{Text, word_for, options_of}
 use Rattle.command_line.specs.declared.asked.Subcommand.{Subcommand}
 use Rattle.command_line.specs.declared.asked.Words.{Words}
 
 -- the subcommand is the word after the program's name
 abbrev pub AsksFor : List Text → Subcommand → Type 0
-AsksFor given subcommand = slice_get given 1 ≡ Some (name_of subcommand)
+AsksFor given subcommand = slice_get given 1 ≡ Some (word_for subcommand)
 
 -- What was read is what the words ask for: the subcommand, and of its options and FILEs what the words
 -- behind it give. They give no other options.

@@ -6,9 +6,9 @@ use Rattle.std.specs.Option.{option_map_or}
 use Rattle.clap.specs.Words.{Row, Text, all_of, first_of}
 use Rattle.clap.specs.Words.{subcommand_name_of, subcommand_rows_of}
 use Rattle.clap.specs.declared.ArgMatches.{ArgMatches}
-use Rattle.command_line.specs.Given.{decimal}
-use Rattle.command_line.specs.Runnable.{files_of_words, subcommand_of}
-use Rattle.command_line.specs.Subcommands.{is_one_or_more, name_of, wants_files_alone}
+use Rattle.command_line.specs.Given.{decimal_value}
+use Rattle.command_line.specs.Runnable.{IsRunnable, files_of_words, subcommand_of}
+use Rattle.command_line.specs.Subcommands.{is_one_or_more, word_for, wants_files_alone}
 use Rattle.command_line.specs.declared.asked.AuditWords.{AuditWords}
 use Rattle.command_line.specs.declared.asked.CheckWords.{CheckWords}
 use Rattle.command_line.specs.declared.asked.ScratchWords.{ScratchWords}
@@ -26,8 +26,8 @@ abbrev pub files_in : List Row → List Text
 files_in rows = values_in (codes "FILE") rows
 
 -- the number that an option has, and 1 where it has none
-abbrev pub number_in : Text → List Row → ℕ
-number_in id rows = option_map_or decimal (first_of id rows) 1
+abbrev pub option_number : Text → List Row → ℕ
+option_number id rows = option_map_or decimal_value (first_of id rows) 1
 
 -- a flag was given
 abbrev pub has_flag : Text → List Row → Bool
@@ -35,16 +35,16 @@ has_flag id rows = option_map_or (bytes_eq (codes "true")) (first_of id rows) fa
 
 -- The profile is the number of its option, and the flag is set if it was given.
 pub record IsScratchIn (rows : List Row) (w : ScratchWords) : Type 0 where
-  pub profile : number_in (codes "profile") rows ≡ w.profile
+  pub profile : option_number (codes "profile") rows ≡ w.profile
   pub messages : has_flag (codes "messages") rows ≡ w.messages
 
 -- The folder of the cache is the first value of its option, the numbers are those of theirs,
 -- and the flag is set if it was given.
 pub record IsCheckIn (rows : List Row) (w : CheckWords) : Type 0 where
   pub cache : first_of (codes "cache") rows ≡ Some (string_bytes w.cache)
-  pub jobs : number_in (codes "jobs") rows ≡ w.jobs
-  pub profile : number_in (codes "profile") rows ≡ w.profile
-  pub form : number_in (codes "form") rows ≡ w.form
+  pub jobs : option_number (codes "jobs") rows ≡ w.jobs
+  pub profile : option_number (codes "profile") rows ≡ w.profile
+  pub form : option_number (codes "form") rows ≡ w.form
   pub messages : has_flag (codes "messages") rows ≡ w.messages
 
 -- The sources are the values of their option, and the flag is set if it was given.
@@ -66,15 +66,23 @@ AreOptionsIn rows (words.Show w) = IsShowIn rows w
 AreOptionsIn rows (words.Why w) = first_of (codes "of") rows ≡ option_map string_bytes w.of
 AreOptionsIn rows (words.Explain asked) = Unit {0}
 
+-- These words can be run: they are the subcommand with these FILEs and the values of its options.
+pub record AreWordsOf (subcommand : Subcommand) (files : List Text) (rows : List Row) (w : Words)
+    : Type 0 where
+  pub runnable : IsRunnable w
+  pub asked : subcommand_of w ≡ subcommand
+  pub named : files ≡ files_of_words w
+  pub options : AreOptionsIn rows w
+
 -- the rows of the subcommand that was met
-abbrev pub rows_in : ArgMatches → List Row
-rows_in m = option_map_or (λ (p : Text × List Row). p.1) (subcommand_rows_of m) []
+abbrev pub met_rows : ArgMatches → List Row
+met_rows m = option_map_or (λ (p : Text × List Row). p.1) (subcommand_rows_of m) []
 
 -- These words are the subcommand that was met, with its FILEs and the values of its options.
 pub record AreMet (m : ArgMatches) (w : Words) : Type 0 where
-  pub name : subcommand_name_of m ≡ Some (name_of (subcommand_of w))
-  pub files : files_in (rows_in m) ≡ files_of_words w
-  pub options : AreOptionsIn (rows_in m) w
+  pub name : subcommand_name_of m ≡ Some (word_for (subcommand_of w))
+  pub files : files_in (met_rows m) ≡ files_of_words w
+  pub options : AreOptionsIn (met_rows m) w
 
 -- The rows have FILEs that are enough for the subcommand, no profile and no record's key.
 pub record AreEnough (subcommand : Subcommand) (rows : List Row) : Type 0 where

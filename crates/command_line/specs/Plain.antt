@@ -4,7 +4,7 @@ use Rattle.std.specs.Prelude.{Option, Some, None, codes, if◌then◌else◌, is
 use Rattle.std.specs.Prelude.{string_bytes}
 use Rattle.std.specs.Str.{bytes_eq}
 use Rattle.command_line.specs.Runnable.{files_of_words, subcommand_of}
-use Rattle.command_line.specs.Subcommands.{Text, is_one_or_more, name_of, wants_files_alone}
+use Rattle.command_line.specs.Subcommands.{Text, is_one_or_more, word_for, wants_files_alone}
 use Rattle.command_line.specs.declared.asked.Subcommand.{Subcommand}
 use Rattle.command_line.specs.declared.asked.Words.{Words}
 use Rattle.command_line.specs.declared.asked.Words.TheVariants as words
@@ -38,7 +38,7 @@ abbrev pub words_behind : Subcommand → List Text → Option (List Text)
 words_behind subcommand [] = None
 words_behind subcommand (name ∷ []) = None
 words_behind subcommand (name ∷ word ∷ rest) =
-    if bytes_eq (name_of subcommand) word then Some rest else None
+    if bytes_eq (word_for subcommand) word then Some rest else None
 
 -- there is no option, and the FILEs are enough for the subcommand
 abbrev pub are_plain : Subcommand → List Text → Bool

@@ -6,7 +6,7 @@ use Rattle.clap.specs.Words.{App, Rule, Text, new_app, new_rule, with_rule, with
 use Rattle.clap.specs.declared.builder.ArgAction.TheVariants.{Append, SetTrue}
 use Rattle.clap.specs.declared.builder.ValueParser.TheVariants as parser
 use Rattle.command_line.specs.Runnable.{most_form, most_jobs, most_profile}
-use Rattle.command_line.specs.Subcommands.{name_of}
+use Rattle.command_line.specs.Subcommands.{word_for}
 use Rattle.command_line.specs.declared.asked.Subcommand.{Subcommand}
 use Rattle.command_line.specs.declared.asked.Subcommand.TheVariants.{Scratch, Check, Audit, Show, Why, Explain}
 
@@ -48,18 +48,18 @@ abbrev pub key_rule : Rule
 key_rule = option_rule (codes "of")
 
 -- the options of a subcommand
-abbrev pub rules_of : Subcommand → List Rule
-rules_of Scratch = profile_rule ∷ flag_rule (codes "messages") ∷ []
-rules_of Check = cache_rule ∷ number_rule (codes "jobs") most_jobs
+abbrev pub option_rules : Subcommand → List Rule
+option_rules Scratch = profile_rule ∷ flag_rule (codes "messages") ∷ []
+option_rules Check = cache_rule ∷ number_rule (codes "jobs") most_jobs
     ∷ number_rule (codes "form") most_form ∷ profile_rule ∷ flag_rule (codes "messages") ∷ []
-rules_of Audit = source_rule ∷ flag_rule (codes "progress") ∷ []
-rules_of Show = key_rule ∷ flag_rule (codes "dot") ∷ []
-rules_of Why = key_rule ∷ []
-rules_of Explain = []
+option_rules Audit = source_rule ∷ flag_rule (codes "progress") ∷ []
+option_rules Show = key_rule ∷ flag_rule (codes "dot") ∷ []
+option_rules Why = key_rule ∷ []
+option_rules Explain = []
 
 -- a subcommand before its FILEs
 abbrev pub options_app : Subcommand → App
-options_app subcommand = fold with_rule (new_app (name_of subcommand)) (rules_of subcommand)
+options_app subcommand = fold with_rule (new_app (word_for subcommand)) (option_rules subcommand)
 
 abbrev pub subcommand_app : Subcommand → App
 subcommand_app subcommand = with_rule (options_app subcommand) files_rule

@@ -8,13 +8,13 @@ abbrev pub Text : Type 0
 Text = List ℕ
 
 -- the word that asks for it
-abbrev pub name_of : Subcommand → Text
-name_of Scratch = codes "scratch"
-name_of Check = codes "check"
-name_of Audit = codes "audit"
-name_of Show = codes "show"
-name_of Why = codes "why"
-name_of Explain = codes "explain"
+abbrev pub word_for : Subcommand → Text
+word_for Scratch = codes "scratch"
+word_for Check = codes "check"
+word_for Audit = codes "audit"
+word_for Show = codes "show"
+word_for Why = codes "why"
+word_for Explain = codes "explain"
 
 -- the names of its options
 abbrev pub options_of : Subcommand → List Text

@@ -1,6 +1,6 @@
 //! What a command line asks for.
 ghost use Rattle.std.specs.Prelude.{◌≡◌, IfSome};
-ghost use Rattle.command_line.specs.Subcommands.{name_of};
+ghost use Rattle.command_line.specs.Subcommands.{word_for};
 ghost use Rattle.command_line.specs.declared.asked.WordsFault.TheVariants as fault;
 
 use std::alloc::{AllocError, AllocFailed};
@@ -26,7 +26,7 @@ pub enum Subcommand {
 impl Subcommand {
     /// The word that asks for it.
     pub fn name<'a>(self) -> &'a str
-        ensures { result.now ≡ name_of self }
+        ensures { result.now ≡ word_for self }
     {
         match self {
             Subcommand::Scratch => "scratch",
@@ -40,8 +40,8 @@ impl Subcommand {
 
     /// The subcommand that this word asks for.
     pub(crate) fn of_word(word: &str) -> Option<Subcommand>
-        ensures found { IfSome result (λ subcommand. name_of subcommand ≡ word.now) }
-        ensures known { (subcommand : Subcommand) → word.now ≡ name_of subcommand
+        ensures found { IfSome result (λ subcommand. word_for subcommand ≡ word.now) }
+        ensures known { (subcommand : Subcommand) → word.now ≡ word_for subcommand
             → result ≡ Some subcommand }
     {
         match word {

@@ -3,7 +3,7 @@ ghost use Rattle.std.specs.Prelude.{◌≡◌, IfOk, false, fold};
 ghost use Rattle.clap.specs.Words.{app_of, rule_of, with_rule, with_subcommand};
 ghost use Rattle.clap.specs.declared.builder.Command.TheViews.{out-Command};
 ghost use Rattle.command_line.specs.Program.{cache_rule, checker_app, files_rule, flag_rule, key_rule, number_rule};
-ghost use Rattle.command_line.specs.Program.{options_app, profile_rule, program_app, required_app, rules_of, source_rule, subcommand_app};
+ghost use Rattle.command_line.specs.Program.{options_app, profile_rule, program_app, required_app, option_rules, source_rule, subcommand_app};
 
 use crate::asked::Subcommand;
 use crate::help;
@@ -132,7 +132,7 @@ fn options_of<'a>(alloc: Global, which: Subcommand) -> Result<Command<'a>, Alloc
 fn check_options<'a>(alloc: Global, command: Command<'a>) -> Result<Command<'a>, AllocError>
     requires { (out-Command command).has_globals ≡ false }
     ensures app { IfOk result (λ made.
-        app_of made ≡ fold with_rule (app_of command.entry) (rules_of Subcommand.Check)) }
+        app_of made ≡ fold with_rule (app_of command.entry) (option_rules Subcommand.Check)) }
     ensures local { IfOk result (λ made. (out-Command made).has_globals ≡ false) }
 {
     let command = command
@@ -146,7 +146,7 @@ fn check_options<'a>(alloc: Global, command: Command<'a>) -> Result<Command<'a>,
 fn scratch_options<'a>(alloc: Global, command: Command<'a>) -> Result<Command<'a>, AllocError>
     requires { (out-Command command).has_globals ≡ false }
     ensures app { IfOk result (λ made.
-        app_of made ≡ fold with_rule (app_of command.entry) (rules_of Subcommand.Scratch)) }
+        app_of made ≡ fold with_rule (app_of command.entry) (option_rules Subcommand.Scratch)) }
     ensures local { IfOk result (λ made. (out-Command made).has_globals ≡ false) }
 {
     command

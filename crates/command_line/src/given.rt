@@ -2,7 +2,7 @@
 ghost use Rattle.std.specs.Prelude.{◌≡◌, ◌≤◌, Some, None, IfOk, IfSome};
 ghost use Rattle.std.specs.Prelude.{map, option_map, string_bytes};
 ghost use Rattle.clap.specs.Words.{first_of, found_of, rows_of};
-ghost use Rattle.command_line.specs.Matches.{has_flag, number_in, values_in};
+ghost use Rattle.command_line.specs.Matches.{has_flag, option_number, values_in};
 
 use clap::ArgMatches;
 use std::alloc::{AllocError, Global};
@@ -36,7 +36,7 @@ pub(crate) fn number(given: &ArgMatches<'_>, id: &str, most: u8) -> Option<u8>
     ensures some { IfSome result (λ number. 1 ≤ number) }
     ensures most { IfSome result (λ number. number ≤ most) }
     ensures given { IfSome result (λ number.
-        number_in id.now (rows_of (found_of given.now)) ≡ number) }
+        option_number id.now (rows_of (found_of given.now)) ≡ number) }
     ensures none { first_of id.now (rows_of (found_of given.now)) ≡ None → result ≡ Some 1 }
 {
     let Some(text) = first(given, id) else {

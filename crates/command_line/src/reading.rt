@@ -3,10 +3,10 @@ ghost use Rattle.std.specs.Prelude.{◌≡◌, ◌<◌, Some, None, IfOk, IfSome
 ghost use Rattle.std.specs.Prelude.{List, codes, map, string_bytes, vec_len};
 ghost use Rattle.clap.specs.Words.{first_of, found_of, kind_of, rows_of, subcommand_name_of};
 ghost use Rattle.command_line.specs.CommandLine.{Asks};
-ghost use Rattle.command_line.specs.Matches.{AreEnough, AreMet, AreOptionsIn, files_in, has_flag, rows_in};
+ghost use Rattle.command_line.specs.Matches.{AreEnough, AreMet, AreWordsOf, files_in, has_flag, met_rows};
 ghost use Rattle.command_line.specs.Plain.{IsPlain, asks_plainly, files_for};
-ghost use Rattle.command_line.specs.Runnable.{IsRunnable, files_of_words, subcommand_of};
-ghost use Rattle.command_line.specs.Subcommands.{Text, name_of};
+ghost use Rattle.command_line.specs.Runnable.{IsRunnable};
+ghost use Rattle.command_line.specs.Subcommands.{Text, word_for};
 
 use crate::asked::{
     AuditWords, CheckWords, ScratchWords, ShowWords, Subcommand, WhyWords, Words, WordsFault,
@@ -63,8 +63,8 @@ fn choose(alloc: Global, matches: &ArgMatches<'_>) -> Result<Words, WordsFault>
     ensures runnable { IfOk result IsRunnable }
     ensures met { IfOk result (AreMet matches.now) }
     ensures taken { (subcommand : Subcommand)
-        → subcommand_name_of matches.now ≡ Some (name_of subcommand)
-        → AreEnough subcommand (rows_in matches.now)
+        → subcommand_name_of matches.now ≡ Some (word_for subcommand)
+        → AreEnough subcommand (met_rows matches.now)
         → IsOkUnless result WordsFault.OutOfMemory }
 {
     let Some((name, given)) = matches.subcommand() else {
@@ -82,11 +82,8 @@ fn words_of(
     subcommand: Subcommand,
     given: &ArgMatches<'_>,
 ) -> Result<Words, WordsFault>
-    ensures runnable { IfOk result IsRunnable }
-    ensures subcommand { IfOk result (λ words. subcommand_of words ≡ subcommand) }
-    ensures files { IfOk result (λ words.
-        files_in (rows_of (found_of given.now)) ≡ files_of_words words) }
-    ensures options { IfOk result (AreOptionsIn (rows_of (found_of given.now))) }
+    ensures words { IfOk result (AreWordsOf subcommand (files_in (rows_of (found_of given.now)))
+        (rows_of (found_of given.now))) }
     ensures taken { AreEnough subcommand (rows_of (found_of given.now))
         → IsOkUnless result WordsFault.OutOfMemory }
 {
@@ -111,10 +108,8 @@ fn scratch_words(
     files: Vec<String>,
 ) -> Result<Words, WordsFault>
     requires { 0 < vec_len files }
-    ensures runnable { IfOk result IsRunnable }
-    ensures subcommand { IfOk result (λ words. subcommand_of words ≡ Subcommand.Scratch) }
-    ensures files { IfOk result (λ words. map string_bytes files.items ≡ files_of_words words) }
-    ensures options { IfOk result (AreOptionsIn (rows_of (found_of given.now))) }
+    ensures words { IfOk result (AreWordsOf Subcommand.Scratch (map string_bytes files.items)
+        (rows_of (found_of given.now))) }
     ensures taken { first_of (codes "profile") (rows_of (found_of given.now)) ≡ None
         → IsOkUnless result WordsFault.OutOfMemory }
 {
@@ -135,10 +130,8 @@ fn check_words(
     files: Vec<String>,
 ) -> Result<Words, WordsFault>
     requires { 0 < vec_len files }
-    ensures runnable { IfOk result IsRunnable }
-    ensures subcommand { IfOk result (λ words. subcommand_of words ≡ Subcommand.Check) }
-    ensures files { IfOk result (λ words. map string_bytes files.items ≡ files_of_words words) }
-    ensures options { IfOk result (AreOptionsIn (rows_of (found_of given.now))) }
+    ensures words { IfOk result (AreWordsOf Subcommand.Check (map string_bytes files.items)
+        (rows_of (found_of given.now))) }
 {
     let (Some(cache), Some(jobs)) = (first(given, CACHE), number(given, JOBS, MOST_JOBS)) else {
         return Err(unreadable(alloc));
@@ -166,10 +159,8 @@ fn audit_words(
     files: Vec<String>,
 ) -> Result<Words, WordsFault>
     requires { 0 < vec_len files }
-    ensures runnable { IfOk result IsRunnable }
-    ensures subcommand { IfOk result (λ words. subcommand_of words ≡ Subcommand.Audit) }
-    ensures files { IfOk result (λ words. map string_bytes files.items ≡ files_of_words words) }
-    ensures options { IfOk result (AreOptionsIn (rows_of (found_of given.now))) }
+    ensures words { IfOk result (AreWordsOf Subcommand.Audit (map string_bytes files.items)
+        (rows_of (found_of given.now))) }
     ensures taken { IsOkUnless result WordsFault.OutOfMemory }
 {
     let sources = values(alloc, given, SOURCE)?;
@@ -187,10 +178,8 @@ fn show_words(
     files: Vec<String>,
 ) -> Result<Words, WordsFault>
     requires { 0 < vec_len files }
-    ensures runnable { IfOk result IsRunnable }
-    ensures subcommand { IfOk result (λ words. subcommand_of words ≡ Subcommand.Show) }
-    ensures files { IfOk result (λ words. map string_bytes files.items ≡ files_of_words words) }
-    ensures options { IfOk result (AreOptionsIn (rows_of (found_of given.now))) }
+    ensures words { IfOk result (AreWordsOf Subcommand.Show (map string_bytes files.items)
+        (rows_of (found_of given.now))) }
     ensures taken { IfSome (first_of (codes "of") (rows_of (found_of given.now)))
         (λ key. IsTrue (has_flag (codes "dot") (rows_of (found_of given.now))))
         → IsOkUnless result WordsFault.OutOfMemory }
@@ -206,10 +195,8 @@ fn show_words(
 // The words of `why` on these files.
 fn why_words(alloc: Global, given: &ArgMatches<'_>, files: Vec<String>) -> Result<Words, WordsFault>
     requires { 0 < vec_len files }
-    ensures runnable { IfOk result IsRunnable }
-    ensures subcommand { IfOk result (λ words. subcommand_of words ≡ Subcommand.Why) }
-    ensures files { IfOk result (λ words. map string_bytes files.items ≡ files_of_words words) }
-    ensures options { IfOk result (AreOptionsIn (rows_of (found_of given.now))) }
+    ensures words { IfOk result (AreWordsOf Subcommand.Why (map string_bytes files.items)
+        (rows_of (found_of given.now))) }
     ensures taken { IsOkUnless result WordsFault.OutOfMemory }
 {
     let of = text(alloc, given, OF)?;

@@ -12,15 +12,15 @@ use Rattle.sessions.specs.Terms.{first_terms}
 use Rattle.sessions.specs.declared.mark.Mark.{Mark}
 use Rattle.sessions.specs.declared.mark.Mark.TheVariants.{Executed, Green}
 use Rattle.sessions.specs.Marks.{mark_number}
-use Rattle.sessions.specs.Sessions.{RecordValue, SessionValue}
+use Rattle.sessions.specs.Sessions.{RecordValue, SessionValue, many_of}
 use Rattle.sessions.specs.Spelling.{digest_of}
 use Rattle.job_table.specs.Tables.{TableValue}
 use Rattle.job_table.specs.Calls.{opened, AskGives}
 use Rattle.job_table.specs.declared.fault.Asked.TheVariants.{Stopped}
 use Rattle.shared_table.specs.Given.{IsGiven}
-use Rattle.driver.specs.Sessions.{DriveGives, IsSessionOf}
-use Rattle.driver.specs.declared.fault.DriveFault.{DriveFault}
-use Rattle.driver.specs.declared.reports.Reports.{Reports}
+use Rattle.mini_java.specs.Sessions.{DriveGives, IsSessionOf}
+use Rattle.mini_java.specs.DriveFault.{DriveFault}
+use Rattle.mini_java.specs.Reports.{Reports}
 use Rattle.crew_fixtures.specs.declared.files.File.{File}
 use Rattle.crew_fixtures.specs.declared.making.BothTerms.{BothTerms}
 use Rattle.crew_fixtures.specs.declared.making.Edit.{Edit}
@@ -29,29 +29,21 @@ use Rattle.crew_fixtures.specs.declared.runs.Runs.{Runs}
 
 -- ---- projects
 
-abbrev pub file_told : File → SourceFile
-file_told f = record { name = f.0.now; bytes = f.1.now }
+abbrev pub source_file : File → SourceFile
+source_file f = record { name = f.0.now; bytes = f.1.now }
 
-abbrev pub files_told : List File → Project
-files_told files = map file_told files
+abbrev pub source_files : List File → Project
+source_files files = map source_file files
 
 -- the project of the one file
 abbrev pub before : Edit → Project
-before edit = file_told edit.file ∷ []
+before edit = source_file edit.file ∷ []
 
 -- the project of it with the other text
 abbrev pub after : Edit → Project
 after edit = (record { name = edit.file.0.now; bytes = edit.edited.now }) ∷ []
 
 -- ---- records by their marks
-
--- a record has the mark; marks are told apart by their numbers
-abbrev pub has_mark : Mark → RecordValue → Bool
-has_mark mark r = mark_number r.mark == mark_number mark
-
--- how many records have the mark
-abbrev pub many_of : Mark → List RecordValue → ℕ
-many_of mark records = count_by (has_mark mark) records
 
 -- ---- sessions
 
@@ -95,10 +87,10 @@ abbrev pub IsDigestOf : Project → ℕ → List ℕ → Type 0
 IsDigestOf p workers digest = IsDigestOver first_terms None p workers digest
 
 -- why there is no first session, or none where there is one
-abbrev pub IsFaultOf : Project → ℕ → Option DriveFault → Type 0
-IsFaultOf p workers None =
+abbrev pub IsFirstFault : Project → ℕ → Option DriveFault → Type 0
+IsFirstFault p workers None =
     (s : SessionValue) × (r : Reports) × DriveGives queries first_terms None p workers (Ok (s, r))
-IsFaultOf p workers (Some fault) = DriveGives queries first_terms None p workers (Err fault)
+IsFirstFault p workers (Some fault) = DriveGives queries first_terms None p workers (Err fault)
 
 -- ---- records that are executed
 
@@ -119,8 +111,8 @@ pub record HaveExecuted (p q : Project) (first second : Runs) : Type 0 where
 -- ---- seats
 
 -- the worker of number 1, who asks for the key, is answered that it stops
-abbrev pub Stops : Key → TableValue → TableValue → Type 0
-Stops q t u = AskGives t 1 q (Ok Stopped) u
+abbrev pub IsAnsweredStop : Key → TableValue → TableValue → Type 0
+IsAnsweredStop q t u = AskGives t 1 q (Ok Stopped) u
 
 -- at a table of a first session of the file, a worker who asks for its tree is answered that it
 -- stops
@@ -129,4 +121,4 @@ pub record FellowsStop (file : File) : Type 0 where
   pub kind : kind_of key ≡ kinds.Tree
   pub of_file : class_of key ≡ name_told file.0.now
   pub stops : IsGiven queries
-      (opened queries.by_profile first_terms None (file_told file ∷ [])) (Stops key)
+      (opened queries.by_profile first_terms None (source_file file ∷ [])) (IsAnsweredStop key)

@@ -1,7 +1,7 @@
 //! Projects of files from short texts.
 ghost use Rattle.std.specs.Prelude.{◌≡◌, IfOk, map};
 ghost use Rattle.mj_project.specs.Projects.{source_view, sources_view};
-ghost use Rattle.crew_fixtures.specs.Made.{file_told, files_told};
+ghost use Rattle.crew_fixtures.specs.Made.{source_file, source_files};
 
 use answer_fixtures::Unfit;
 use mj_project::Project;
@@ -13,9 +13,16 @@ pub struct File(pub &'static str, pub &'static str);
 
 /// The project of these files.
 pub(crate) fn project_of(alloc: Global, files: &[File]) -> Result<Project, Unfit>
-    ensures { IfOk result (λ p. p ≡ files_told files.now) }
+    ensures { IfOk result (λ p. p ≡ source_files files.now) }
 {
     let files = files_of(alloc, files)?;
+    project_with(alloc, files)
+}
+
+/// The project of files of these names and bytes.
+pub(crate) fn project_with(alloc: Global, files: Vec<(String, Vec<u8>)>) -> Result<Project, Unfit>
+    ensures { IfOk result (λ p. p ≡ sources_view files.items) }
+{
     match Project::new(alloc, files) {
         Ok(project) => Ok(project),
         Err(_) => Err(Unfit),
@@ -23,7 +30,7 @@ pub(crate) fn project_of(alloc: Global, files: &[File]) -> Result<Project, Unfit
 }
 
 fn files_of(alloc: Global, files: &[File]) -> Result<Vec<(String, Vec<u8>)>, AllocError>
-    ensures { IfOk result (λ list. sources_view list.items ≡ files_told files.now) }
+    ensures { IfOk result (λ list. sources_view list.items ≡ source_files files.now) }
 {
     let mut list = Vec::new(alloc);
     for file in files {
@@ -33,7 +40,7 @@ fn files_of(alloc: Global, files: &[File]) -> Result<Vec<(String, Vec<u8>)>, All
 }
 
 fn file_of(alloc: Global, file: &File) -> Result<(String, Vec<u8>), AllocError>
-    ensures { IfOk result (λ f. source_view f ≡ file_told file.now) }
+    ensures { IfOk result (λ f. source_view f ≡ source_file file.now) }
 {
     let File(name, text) = *file;
     let name = String::from_str(alloc, name)?;

@@ -2,6 +2,7 @@
 ghost use Rattle.std.specs.Prelude.{◌≡◌, [], ◌∷◌, codes, IfOk};
 ghost use Rattle.mj_project.specs.Projects.{names_of, sources_view};
 
+use crate::files::project_with;
 use answer_fixtures::Unfit;
 use mj_project::Project;
 use std::alloc::{AllocError, Global};
@@ -43,16 +44,6 @@ fn two_files_of(
     let name = String::from_str(alloc, "c.java")?;
     files.push((name, second.into_bytes()))?;
     Ok(files)
-}
-
-/// The project of these files.
-fn project_with(alloc: Global, files: Vec<(String, Vec<u8>)>) -> Result<Project, Unfit>
-    ensures { IfOk result (λ p. p ≡ sources_view files.items) }
-{
-    match Project::new(alloc, files) {
-        Ok(project) => Ok(project),
-        Err(_) => Err(Unfit),
-    }
 }
 
 /// The project of one file of this text.

@@ -3,15 +3,13 @@ ghost use Rattle.std.specs.Prelude.{◌≡◌, None, IfOk, IfSome, length, sum};
 ghost use Rattle.std.specs.Arc.{arc_value};
 ghost use Rattle.query_rules.specs.Queries.{queries};
 ghost use Rattle.sessions.specs.Spelling.{digest_of};
-ghost use Rattle.sessions.specs.Sessions.{session_in};
-ghost use Rattle.driver.specs.Sessions.{IsSessionOf};
-ghost use Rattle.crew_fixtures.specs.Made.{AreMade, IsMadeBy, IsMadeOf, after, before, files_told, many_of};
+ghost use Rattle.sessions.specs.Sessions.{session_in, many_of};
+ghost use Rattle.mini_java.specs.Sessions.{IsSessionOf};
+ghost use Rattle.crew_fixtures.specs.Made.{AreMade, IsMadeBy, IsMadeOf, after, before, source_files};
 
 use crate::files::{File, project_of};
-use crate::holding::Holding;
+use crate::hooks::{Holding, Meeting};
 use crate::large::{chain, cut_chain, empty_classes};
-use crate::meeting::Meeting;
-use crate::runs::count_of;
 use answer_fixtures::Unfit;
 use item_ids::Kind;
 use mini_java::{Gate, Open, Reports, run_session, run_session_as};
@@ -72,8 +70,8 @@ fn made_of(session: &Session, reports: &Reports) -> Result<Made, Unfit>
         Some(events) => Ok(Made {
             digest: digest(session),
             records: session.records().len(),
-            executed: count_of(session, Mark::Executed),
-            green: count_of(session, Mark::Green),
+            executed: session.count(Mark::Executed),
+            green: session.count(Mark::Green),
             history: reports.history,
             events,
         }),
@@ -206,7 +204,7 @@ pub fn workers_meet<T: Threads + Wait + Sync>(
     workers: usize,
     turns: u64,
 ) -> Result<bool, Unfit>
-    ensures { IfOk result (λ _. IsMadeBy (files_told files.now) workers) }
+    ensures { IfOk result (λ _. IsMadeBy (source_files files.now) workers) }
 {
     let project = project_of(alloc, files)?;
     let gate = Meeting::new(kind, turns);

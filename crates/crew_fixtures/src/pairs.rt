@@ -1,34 +1,32 @@
 //! Two workers at one table, each in a thread of its own, without gate and driver.
-ghost use Rattle.std.specs.Prelude.{◌≡◌, []};
+ghost use Rattle.std.specs.Prelude.{◌≡◌};
+ghost use Rattle.shared_table.specs.Opened.{IsOpenedFor};
 
 use crate::files::{File, project_of};
-use crate::meeting::Meeting;
-use crate::waiting::Waiting;
-use answer_fixtures::{Asked, Unfit, key_of};
+use crate::hooks::{Hooked, Meeting, Waiting};
+use answer_fixtures::{KeyParts, Unfit, key_of};
 use item_ids::{Key, Kind};
 use job_table::Table;
-use known_list::Opened;
 use mark_green::ensure;
 use mini_java::{Open, Shared};
-use recorder::{Read, Runner};
-use shared_table::{Counted, Naming, Tally};
+use recorder::Runner;
+use shared_table::{Naming, Opening, Tally};
 use std::alloc::{AllocError, Global};
 use std::marker::Brand;
 use std::sync::Wait;
-use std::sync::ledger::Blank;
 use std::thread;
 use std::thread::Threads;
 
 /// One of two workers: its number, its allocator, its runner, its count of events, the file whose tree it evaluates,
 /// and whether it has.
 #[derive(Drop)]
-struct Worker<J: Naming, R: Runner> {
+struct PairWorker<J: Naming, R: Runner> {
     number: u32,
     alloc: Global,
     runner: R,
     tally: Tally<J>,
     file: &'static str,
-    has_brought: bool,
+    has_evaluated: bool,
 }
 
 /// What one of two workers has of its own: its runner, and the file whose tree it evaluates.
@@ -36,47 +34,41 @@ struct Worker<J: Naming, R: Runner> {
 struct Task<R>(R, &'static str);
 
 /// Whether two workers, each in a thread of its own, evaluate the trees of their files at seats of one table.
-fn both_bring<J: Naming + Send + Sync, R: Runner + Drop + Send + Sync, T: Threads + Wait + Sync>(
+fn both_evaluate<J: Naming + Send + Sync, R: Runner + Drop + Send + Sync, T: Threads + Wait + Sync>(
     rt: &T,
     alloc: Global,
-    table: Table<R>,
+    opening: Opening<R>,
     first: Task<R>,
     second: Task<R>,
-    blank: Blank,
-    list: Opened<Read>,
 ) -> Result<bool, AllocError>
-    requires name { blank.name ≡ J.name }
-    requires parts { blank.parts ≡ J.parts }
-    requires two { blank.parts ≡ 2 }
-    requires list { list.seen.book ≡ J.book }
-    requires opened { table ≡ J.opened }
-    requires first { table.history ≡ [] }
+    requires opened { IsOpenedFor J.name J.parts J.book J.opened opening }
+    requires two { opening.blank.parts ≡ 2 }
 {
-    let (book, mut one) = blank.open::<J>();
+    let (counted, mut one, list) = opening.named::<J>();
     let first = worker_of(alloc, 0, first, Tally::new(one.split_off(1, 0)));
     let second = worker_of(alloc, 1, second, Tally::new(one));
-    let shared = Shared::new(Counted::new(table, book), list)?;
-    bring(rt, alloc, &shared, first, second)
+    let shared = Shared::new(counted, list)?;
+    evaluate(rt, alloc, &shared, first, second)
 }
 
 /// Whether both workers evaluate their trees, each in a thread of its own.
-fn bring<J: Naming + Send + Sync, R: Runner + Drop + Send + Sync, T: Threads + Wait + Sync>(
+fn evaluate<J: Naming + Send + Sync, R: Runner + Drop + Send + Sync, T: Threads + Wait + Sync>(
     rt: &T,
     alloc: Global,
     shared: &Shared<J, R>,
-    first: Worker<J, R>,
-    second: Worker<J, R>,
+    first: PairWorker<J, R>,
+    second: PairWorker<J, R>,
 ) -> Result<bool, AllocError> {
     let mut team = team_of(alloc, first, second)?;
     work_all(rt, shared, &mut team);
-    Ok(team.iter().all(|worker| worker.has_brought))
+    Ok(team.iter().all(|worker| worker.has_evaluated))
 }
 
 fn team_of<J: Naming, R: Runner + Drop>(
     alloc: Global,
-    first: Worker<J, R>,
-    second: Worker<J, R>,
-) -> Result<Vec<Worker<J, R>>, AllocError> {
+    first: PairWorker<J, R>,
+    second: PairWorker<J, R>,
+) -> Result<Vec<PairWorker<J, R>>, AllocError> {
     let mut team = Vec::new(alloc);
     team.push(first)?;
     team.push(second)?;
@@ -88,15 +80,15 @@ fn worker_of<J: Naming, R: Runner>(
     number: u32,
     task: Task<R>,
     tally: Tally<J>,
-) -> Worker<J, R> {
+) -> PairWorker<J, R> {
     let Task(runner, file) = task;
-    Worker {
+    PairWorker {
         number,
         alloc,
         runner,
         tally,
         file,
-        has_brought: false,
+        has_evaluated: false,
     }
 }
 
@@ -104,7 +96,7 @@ fn worker_of<J: Naming, R: Runner>(
 fn work_all<J: Naming + Send + Sync, R: Runner + Drop + Send + Sync, T: Threads + Wait + Sync>(
     rt: &T,
     shared: &Shared<J, R>,
-    team: &mut Vec<Worker<J, R>>,
+    team: &mut Vec<PairWorker<J, R>>,
 ) {
     thread::for_each_mut(
         rt,
@@ -115,8 +107,12 @@ fn work_all<J: Naming + Send + Sync, R: Runner + Drop + Send + Sync, T: Threads 
 }
 
 /// A worker evaluates the tree of its file at its seat.
-fn work<J: Naming, R: Runner, T: Wait>(rt: &T, shared: &Shared<J, R>, worker: &mut Worker<J, R>) {
-    if let Ok(key) = key_of(worker.alloc, Asked(Kind::Tree, worker.file, "")) {
+fn work<J: Naming, R: Runner, T: Wait>(
+    rt: &T,
+    shared: &Shared<J, R>,
+    worker: &mut PairWorker<J, R>,
+) {
+    if let Ok(key) = key_of(worker.alloc, KeyParts(Kind::Tree, worker.file, "")) {
         work_for(rt, shared, worker, &key);
     }
 }
@@ -125,19 +121,19 @@ fn work<J: Naming, R: Runner, T: Wait>(rt: &T, shared: &Shared<J, R>, worker: &m
 fn work_for<J: Naming, R: Runner, T: Wait>(
     rt: &T,
     shared: &Shared<J, R>,
-    worker: &mut Worker<J, R>,
+    worker: &mut PairWorker<J, R>,
     key: &Key,
 ) {
-    let Worker {
+    let PairWorker {
         number,
         alloc,
         runner,
         tally,
-        has_brought,
+        has_evaluated,
         ..
     } = worker;
     let mut seat = shared.seat(*alloc, rt, &Open, tally);
-    *has_brought = ensure(*alloc, &mut seat, runner, *number, key).is_ok();
+    *has_evaluated = ensure(*alloc, &mut seat, runner, *number, key).is_ok();
 }
 
 /// Whether both of two workers evaluate the trees of two files at seats of one table, and the first run that begins,
@@ -151,18 +147,13 @@ pub fn seats_meet<T: Threads + Wait + Sync>(
 ) -> Result<bool, Unfit> {
     let project = project_of(alloc, &[first, second])?;
     let meeting = Meeting::new(Kind::Tree, turns);
-    let first = Task(Waiting::new(alloc, &meeting), first.0);
-    let second = Task(Waiting::new(alloc, &meeting), second.0);
+    let first = Task(Hooked::new(alloc, Waiting(&meeting)), first.0);
+    let second = Task(Hooked::new(alloc, Waiting(&meeting)), second.0);
     match Table::open(alloc, None, &project) {
         Ok(table) => {
-            let both = both_bring::<Brand, Waiting, T>(
-                rt,
-                alloc,
-                table,
-                first,
-                second,
-                Blank::new(2),
-                Opened::new(),
+            let opening = Opening::new(table, 2);
+            let both = both_evaluate::<Brand, Hooked<Waiting>, T>(
+                rt, alloc, opening, first, second,
             )?;
             Ok(both && meeting.has_met())
         }

@@ -1,17 +1,20 @@
 //! Runs that are counted, and one that fails.
 ghost use Rattle.std.specs.Prelude.{◌≡◌, ◌∷◌, [], None, IfOk};
 ghost use Rattle.std.specs.Arc.{arc_value};
+ghost use Rattle.query_rules.specs.Queries.{queries};
+ghost use Rattle.sessions.specs.Terms.{first_terms};
 ghost use Rattle.sessions.specs.Sessions.{SessionValue, session_in};
-ghost use Rattle.crew_fixtures.specs.Made.{HasExecuted, HaveExecuted, IsDigestOf, IsFaultOf, file_told, files_told, has_mark, many_of};
+ghost use Rattle.mini_java.specs.Sessions.{DriveGives};
+ghost use Rattle.crew_fixtures.specs.Made.{HasExecuted, HaveExecuted, IsDigestOf, IsFirstFault, source_file, source_files};
 
-use crate::counting::Counting;
 use crate::files::{File, project_of};
+use crate::hooks::{Counting, Hooked};
 use crate::making::share;
 use answer_fixtures::Unfit;
-use driver::{Crew, DriveFault, Open, drive};
+use mini_java::{Crew, DriveFault, Open, Reports, drive};
 use mj_project::Project;
 use session_file::digest;
-use sessions::{Mark, Record, Session};
+use sessions::{Mark, Session};
 use std::alloc::Global;
 use std::sync::atomic::{AtomicU64, Ordering};
 use std::sync::{Arc, Wait};
@@ -24,25 +27,29 @@ pub struct Runs {
     pub executed: usize,
 }
 
-/// How many records have this mark.
-fn count_in(records: &[Record], mark: Mark) -> usize
-    ensures { result ≡ many_of mark records.now }
+/// Makes a session of a project over the previous one by a crew, and counts its runs. Where the number of a run, from 0, is
+/// given, this run is out of memory.
+fn drive_counted<T: Threads + Wait + Sync>(
+    rt: &T,
+    alloc: Global,
+    runs: &AtomicU64,
+    failing: Option<u64>,
+    past: Option<Arc<Session>>,
+    project: &Project,
+    crew: Crew,
+) -> Result<(Session, Reports), DriveFault>
+    ensures gives { DriveGives queries first_terms (session_in past) project.now crew.workers
+        result }
 {
-    records.iter().filter(|item| has_mark(item, mark)).count()
-}
-
-/// How many records of a session have this mark.
-pub(crate) fn count_of(session: &Session, mark: Mark) -> usize
-    ensures { result ≡ many_of mark session.now.records }
-{
-    count_in(session.records(), mark)
-}
-
-/// Whether a record has this mark.
-fn has_mark(item: &Record, mark: Mark) -> bool
-    ensures { result ≡ has_mark mark item.now }
-{
-    item.mark().number() == mark.number()
+    drive(
+        rt,
+        alloc,
+        &|| Hooked::new(alloc, Counting { runs, failing }),
+        past,
+        project,
+        crew,
+        &Open,
+    )
 }
 
 /// The session of a project over the previous one by one worker, and its runs.
@@ -55,17 +62,9 @@ fn counted_over<T: Threads + Wait + Sync>(
     ensures { IfOk result (λ both. HasExecuted (session_in past) project.now both.0 both.1) }
 {
     let runs = AtomicU64::new(0);
-    match drive(
-        rt,
-        alloc,
-        &|| Counting::new(alloc, &runs, None),
-        past,
-        project,
-        Crew::of(1),
-        &Open,
-    ) {
+    match drive_counted(rt, alloc, &runs, None, past, project, Crew::of(1)) {
         Ok((session, _)) => {
-            let executed = count_in(session.records(), Mark::Executed);
+            let executed = session.count(Mark::Executed);
             Ok((
                 session,
                 Runs {
@@ -86,7 +85,7 @@ pub fn runs_of<T: Threads + Wait + Sync>(
     edited: &[File],
 ) -> Result<(Runs, Runs), Unfit>
     ensures { IfOk result (λ both.
-        HaveExecuted (files_told files.now) (files_told edited.now) both.0 both.1) }
+        HaveExecuted (source_files files.now) (source_files edited.now) both.0 both.1) }
 {
     let (past, first) = counted_of(rt, alloc, None, files)?;
     let past = share(alloc, past)?;
@@ -102,7 +101,7 @@ fn counted_of<T: Threads + Wait + Sync>(
     files: &[File],
 ) -> Result<(Session, Runs), Unfit>
     ensures { IfOk result (λ both.
-        HasExecuted (session_in past) (files_told files.now) both.0 both.1) }
+        HasExecuted (session_in past) (source_files files.now) both.0 both.1) }
 {
     let project = project_of(alloc, files)?;
     counted_over(rt, alloc, past, &project)
@@ -129,18 +128,18 @@ pub fn fault_of_failing<T: Threads + Wait + Sync>(
     workers: usize,
     failing: u64,
 ) -> Result<Option<DriveFault>, Unfit>
-    ensures { IfOk result (IsFaultOf (file_told file ∷ []) workers) }
+    ensures { IfOk result (IsFirstFault (source_file file ∷ []) workers) }
 {
     let project = project_of(alloc, &[file])?;
     let runs = AtomicU64::new(0);
-    match drive(
+    match drive_counted(
         rt,
         alloc,
-        &|| Counting::new(alloc, &runs, Some(failing)),
+        &runs,
+        Some(failing),
         None,
         &project,
         Crew::of(workers),
-        &Open,
     ) {
         Ok(_) => Ok(None),
         Err(fault) => Ok(Some(fault)),
@@ -154,19 +153,11 @@ pub fn digest_by<T: Threads + Wait + Sync>(
     file: File,
     crew: Crew,
 ) -> Result<[u8; 32], Unfit>
-    ensures { IfOk result (IsDigestOf (file_told file ∷ []) crew.workers) }
+    ensures { IfOk result (IsDigestOf (source_file file ∷ []) crew.workers) }
 {
     let project = project_of(alloc, &[file])?;
     let runs = AtomicU64::new(0);
-    match drive(
-        rt,
-        alloc,
-        &|| Counting::new(alloc, &runs, None),
-        None,
-        &project,
-        crew,
-        &Open,
-    ) {
+    match drive_counted(rt, alloc, &runs, None, None, &project, crew) {
         Ok((session, _)) => Ok(digest(&session)),
         Err(_) => Err(Unfit),
     }

@@ -254,7 +254,7 @@ fn bodies_are_checked_at_once(rt: HostRuntime) {
 }
 
 #[test]
-fn trees_are_brought_at_once(rt: HostRuntime) {
+fn trees_are_evaluated_at_once(rt: HostRuntime) {
     assert!(rt; seats_meet(&rt, rt.alloc(), EMPTY, MAIN, TURNS) == Ok(true));
 }
 

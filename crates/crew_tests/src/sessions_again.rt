@@ -1,6 +1,7 @@
-//! Sessions that are refused memory, and made again, and what a gate is told meanwhile.
+//! Sessions that are refused memory, and made again, and how often a gate is called meanwhile.
 
 use crate::texts::ONE;
+use crew_fixtures::{gates_are_called_once, run_again};
 use profiles::Profile;
 use session_fixtures::FIRST;
 use sessions::{Form, Terms};
@@ -9,7 +10,6 @@ use std::sync::Wait;
 use std::test::*;
 use std::thread::Threads;
 use table_fixtures::Change;
-use worker_fixtures::{ends_are_told_once, run_again};
 
 /// Sessions of the class that prints 1, one over the other: all ten queries are executed; in form 2 all are green; in
 /// profile 2 the check of the class is executed again; in profile 1 and form 2 it is once more.
@@ -87,8 +87,8 @@ fn sessions_of_form_2_over_another_profile_are_made_again(rt: HostRuntime) {
 
 /// Ten queries are run.
 #[test]
-fn a_gate_is_told_of_each_end_once(rt: HostRuntime) {
+fn a_gate_is_called_once_at_each_end(rt: HostRuntime) {
     for workers in [1, 2, 8] {
-        assert!(rt; ends_are_told_once(&rt, rt.alloc(), ONE, workers, 10) == Ok(true));
+        assert!(rt; gates_are_called_once(&rt, rt.alloc(), ONE, workers, 10) == Ok(true));
     }
 }

@@ -1,8 +1,8 @@
 //! Workers one of whom is refused memory.
 
+use crew_fixtures::{all_stop, fault_of_worker};
 use driver::DriveFault;
 use std::test::*;
-use worker_fixtures::{all_stop, fault_of_worker};
 
 #[test]
 fn all_others_stop(rt: HostRuntime) {

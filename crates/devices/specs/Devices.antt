@@ -6,14 +6,14 @@ abbrev pub one_more : ℕ → ℕ
 one_more n = min (n + 1) (2 ^ 64 - 1)
 
 -- just a failure is counted
-abbrev pub Counts : {A E : Type 0} → Result A E → ℕ → ℕ → Type 0
-Counts (Ok a) old new = new ≡ old
-Counts (Err e) old new = new ≡ one_more old
+abbrev pub CountsFailures : {A E : Type 0} → Result A E → ℕ → ℕ → Type 0
+CountsFailures (Ok a) old new = new ≡ old
+CountsFailures (Err e) old new = new ≡ one_more old
 
 -- ---- sinks, by the bytes that they hold
 
 -- this many of the bytes, at least one if there are any
-pub record IsCount (bytes : List ℕ) (n : ℕ) : Type 0 where
+pub record IsPutCount (bytes : List ℕ) (n : ℕ) : Type 0 where
   pub within : n ≤ length bytes
   pub some : 0 < length bytes → 0 < n
 
@@ -46,8 +46,8 @@ pub record MovesBytes (new : List ℕ → Type 0) (bytes before after : List ℕ
   pub end : 0 < length before → n ≡ 0 → bytes ≡ []
 
 -- the room has the first of the bytes at its front, and none only at the end; or nothing was moved
-abbrev pub Takes : {E : Type 0} → (List ℕ → Type 0) → (List ℕ → Type 0) → List ℕ → List ℕ
+abbrev pub TakesSome : {E : Type 0} → (List ℕ → Type 0) → (List ℕ → Type 0) → List ℕ → List ℕ
     → Result ℕ E → Type 0
-Takes old new before after (Ok n) =
+TakesSome old new before after (Ok n) =
     (n ≤ length before) × ((bytes : List ℕ) → old bytes → MovesBytes new bytes before after n)
-Takes old new before after (Err e) = (bytes : List ℕ) → old bytes → new bytes
+TakesSome old new before after (Err e) = (bytes : List ℕ) → old bytes → new bytes

@@ -1,6 +1,6 @@
 //! Devices, which take or give bytes a few at a time and may fail.
 ghost use Rattle.std.specs.Prelude.{◌≡◌, ℕ, List, [], Ok, IfOk};
-ghost use Rattle.devices.specs.Devices.{Counts, IsCount, PutsSome, Takes};
+ghost use Rattle.devices.specs.Devices.{CountsFailures, IsPutCount, PutsSome, TakesSome};
 
 use thiserror::Error;
 
@@ -19,9 +19,9 @@ pub trait Sink {
 
     /// Appends the first of the bytes, at least one if there is any, and answers how many; a failure appends none.
     fn put(&mut self, bytes: &[u8]) -> Result<usize, DeviceFault>
-        ensures count { IfOk result (IsCount bytes.now) }
+        ensures count { IfOk result (IsPutCount bytes.now) }
         ensures holds { PutsSome (holds self.old) (holds self.new) bytes.now result }
-        ensures counted { Counts result (failed self.old) (failed self.new) }
+        ensures counted { CountsFailures result (failed self.old) (failed self.new) }
         ensures none { bytes.now ≡ [] → (result ≡ Ok 0) × (self.new ≡ self.old) };
 
     /// How often it failed, up to `u64::MAX`.
@@ -40,8 +40,8 @@ pub trait Feed {
     /// Moves bytes to the front of the room and answers how many: none only at the end, or where there is no room. A
     /// failure moves none. What the room has behind them is left open.
     fn take(&mut self, room: &mut [u8]) -> Result<usize, DeviceFault>
-        ensures taken { Takes (holds self.old) (holds self.new) room.old room.new result }
-        ensures counted { Counts result (failed self.old) (failed self.new) }
+        ensures taken { TakesSome (holds self.old) (holds self.new) room.old room.new result }
+        ensures counted { CountsFailures result (failed self.old) (failed self.new) }
         ensures none { room.old ≡ [] → (result ≡ Ok 0) × (self.new ≡ self.old) };
 
     /// How often it failed, up to `u64::MAX`.

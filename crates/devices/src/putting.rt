@@ -1,20 +1,18 @@
 //! Writing all of some bytes, whatever a sink takes at a time.
 ghost use Rattle.std.specs.Prelude.{flat_map};
-ghost use Rattle.devices.specs.Devices.{Counts, Puts};
+ghost use Rattle.devices.specs.Devices.{CountsFailures, Puts};
 
 use crate::device::{DeviceFault, Sink};
 
 /// Appends all of the bytes; where the sink fails it has a beginning of them.
 pub fn put_all<W: Sink>(sink: &mut W, bytes: &[u8]) -> Result<(), DeviceFault>
     ensures holds { Puts (W.holds sink.old) (W.holds sink.new) bytes.now result }
-    ensures counted { Counts result (W.failed sink.old) (W.failed sink.new) }
+    ensures counted { CountsFailures result (W.failed sink.old) (W.failed sink.new) }
 {
     let mut at = 0;
     while at < bytes.len() {
-        match sink.put(&bytes[at..]) {
-            Ok(count) => at += count,
-            Err(fault) => return Err(fault),
-        }
+        let count = sink.put(&bytes[at..])?;
+        at += count;
     }
     Ok(())
 }
@@ -23,13 +21,10 @@ pub fn put_all<W: Sink>(sink: &mut W, bytes: &[u8]) -> Result<(), DeviceFault>
 pub fn put_parts<W: Sink>(sink: &mut W, parts: &[&[u8]]) -> Result<(), DeviceFault>
     ensures holds { Puts (W.holds sink.old) (W.holds sink.new)
         (flat_map (λ part. part.now) parts.now) result }
-    ensures counted { Counts result (W.failed sink.old) (W.failed sink.new) }
+    ensures counted { CountsFailures result (W.failed sink.old) (W.failed sink.new) }
 {
     for part in parts {
-        match put_all(sink, part) {
-            Ok(()) => {}
-            Err(fault) => return Err(fault),
-        }
+        put_all(sink, part)?;
     }
     Ok(())
 }

@@ -5,19 +5,20 @@ use Rattle.std.proofs.lemmas.List.Sums.{sum_by-cons}
 use Rattle.std.specs.declared.cmp.Ordering.TheVariants.{Less, Equal}
 use Rattle.item_ids.specs.declared.key.Key.{Key}
 use Rattle.item_ids.specs.Keys.{key_cmp}
+use Rattle.item_ids.specs.KeyLists.{NoneTwice}
 use Rattle.item_ids.proofs.Apart.{key_itself}
+use Rattle.item_ids.proofs.Lists.{all_from}
 use Rattle.result_bytes.specs.declared.value.Value.{Value}
 use Rattle.recorder.specs.Projects.{Project}
 use Rattle.recorder.specs.Backed.{keys}
 use Rattle.sessions.specs.declared.mark.Mark.{Mark}
 use Rattle.sessions.specs.declared.mark.Mark.TheVariants.{Executed}
-use Rattle.sessions.specs.Sessions.{AreOnce, Entry, RecordValue, SessionValue, entries, entry_of}
-use Rattle.graph_rules.specs.Graphs.{AreAscending, AreClosed, IsEntryOf, KeyBefore}
+use Rattle.sessions.specs.Sessions.{Entry, RecordValue, SessionValue, entries, entry_of}
+use Rattle.graph_rules.specs.Graphs.{AreAscendingByKey, AreClosed, IsEntryOf, KeyBefore}
 use Rattle.graph_rules.specs.Keys.{same_key, input_of}
 use Rattle.graph_rules.specs.Settings.{Setting, kept}
 use Rattle.graph_rules.specs.Steps.{Status, Unknown, Claimed, Running, Done, State, Event, Claim, MarkGreen, Begin, Finish, Fail, at_opening, opening, with_status, green, MayStep, AreSteps, Legal, after, after_all, state_after}
 use Rattle.graph_rules.proofs.KeyRules.{same_is}
-use Rattle.graph_rules.proofs.NextRules.{all_from}
 use Rattle.driver.specs.Sessions.{events_for, events_needed}
 
 -- the events that led to how a key stands
@@ -46,7 +47,7 @@ module _ (s : State) (q : Key) (x : Status) where
       at_key rest false is = rw (is, rest) refl
 
   -- a key that stands one event further is one event more
-  one_further : events_at x ≤ events_at (s.at q) + 1 → (ks : List Key) → AreOnce ks
+  one_further : events_at x ≤ events_at (s.at q) + 1 → (ks : List Key) → NoneTwice (λ k. k) ks
       → events_of (with_status s q x) ks ≤ events_of s ks + 1
   one_further step [] once = omega arith
   one_further step (k ∷ ks) once = at_key (one_further step ks once.1) (same_key q k) refl
@@ -65,7 +66,7 @@ green_further : (r : Option Entry) → events_at (green r) ≤ 2
 green_further None = omega arith
 green_further (Some r) = omega arith
 
-step_further : (over : Setting) (s : State) (e : Event) → MayStep over s e → (ks : List Key) → AreOnce ks
+step_further : (over : Setting) (s : State) (e : Event) → MayStep over s e → (ks : List Key) → NoneTwice (λ k. k) ks
     → events_of (after over s e) ks ≤ events_of s ks + 1
 step_further over s (Claim w q) may ks once = one_further s q (Claimed w) (omega arith) ks once
 step_further over s (MarkGreen w q) may ks once =
@@ -82,7 +83,7 @@ step_further over s (Fail w) may ks once = omega arith
 
 -- ---- a whole history
 
-steps_further : (over : Setting) (s : State) (h : List Event) → AreSteps over s h → (ks : List Key) → AreOnce ks
+steps_further : (over : Setting) (s : State) (h : List Event) → AreSteps over s h → (ks : List Key) → NoneTwice (λ k. k) ks
     → events_of (after_all over s h) ks ≤ events_of s ks + length h
 steps_further over s [] steps ks once = omega arith
 steps_further over s (e ∷ h) steps ks once =
@@ -103,7 +104,7 @@ none_of_opening p (k ∷ ks) =
     omega (arith, here, rest)
 
 -- however its keys stand at its end, a history has the events that led there
-history_suffices : (over : Setting) (p : Project) (h : List Event) → Legal over p h → (ks : List Key) → AreOnce ks
+history_suffices : (over : Setting) (p : Project) (h : List Event) → Legal over p h → (ks : List Key) → NoneTwice (λ k. k) ks
     → events_of (state_after over p h) ks ≤ length h
 history_suffices over p h legal ks once =
     let all : events_of (state_after over p h) ks ≤ events_of (opening p) ks + length h =
@@ -122,8 +123,8 @@ before_differs a b before same =
     less_equal h = absurd cc
 
 -- records in the order of their keys have each key once
-keys_once : (all rs : List RecordValue) → AreAscending (map (entry_of all) rs)
-    → AreOnce (map (λ r. r.key) rs)
+keys_once : (all rs : List RecordValue) → AreAscendingByKey (map (entry_of all) rs)
+    → NoneTwice (λ (k : Key). k) (map (λ r. r.key) rs)
 keys_once all [] h = tt
 keys_once all (r ∷ rs) h = (behind rs h.0, keys_once all rs h.1)
   where
@@ -148,7 +149,7 @@ records_need s all (r ∷ rs) h =
 pub closed_suffices : (over : Setting) (p : Project) (h : List Event) (s : SessionValue) → Legal over p h
     → AreClosed p (state_after over p h) (entries s) → events_needed s.records ≤ length h
 closed_suffices over p h s legal closed =
-    let once : AreOnce (map (λ r. r.key) s.records) = keys_once s.records s.records closed.ascending in
+    let once : NoneTwice (λ (k : Key). k) (map (λ r. r.key) s.records) = keys_once s.records s.records closed.ascending in
     let each : AllByRecursion (IsEntryOf (state_after over p h)) (entries s) =
     all_from (IsEntryOf (state_after over p h)) (entries s) (λ r has. (closed.each r has).1) in
     let need : events_needed s.records ≡ events_of (state_after over p h) (map (λ r. r.key) s.records) =

@@ -12,7 +12,7 @@ use Rattle.graph_rules.specs.Sound.{IsSound}
 use Rattle.graph_rules.proofs.Keeping.{sound_history}
 use Rattle.graph_rules.proofs.SessionRules.{no_clash}
 use Rattle.graph_rules.proofs.NextRules.{closed_next, closed_as}
-use Rattle.key_states.specs.Closing.{IsFull}
+use Rattle.shared_table.specs.Closing.{IsFull}
 use Rattle.driver.specs.declared.reports.Reports.{Reports}
 use Rattle.next_sessions.specs.Nexts.{StandsApart, IsNextSession}
 use Rattle.next_sessions.proofs.OneSession.{one_session}

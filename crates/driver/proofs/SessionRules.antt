@@ -7,9 +7,9 @@ use Rattle.graph_rules.specs.Settings.{Setting, crossing_kinds}
 use Rattle.graph_rules.specs.Steps.{Legal, state_after}
 use Rattle.graph_rules.specs.Sound.{AreBacked}
 use Rattle.sessions.specs.Sessions.{SessionValue, past_entry}
-use Rattle.job_table.specs.Tables.{TableValue, past_of, state_of}
-use Rattle.key_states.specs.Closing.{IsClosing}
-use Rattle.job_table.specs.Closes.{MayClose}
+use Rattle.shared_table.specs.Tables.{TableValue, past_of, state_of}
+use Rattle.shared_table.specs.Closing.{IsClosing}
+use Rattle.shared_table.specs.Closes.{MayClose}
 use Rattle.driver.specs.declared.reports.Reports.{Reports}
 use Rattle.driver.specs.Sessions.{IsSessionOf, events_needed}
 use Rattle.driver.proofs.Counts.{closed_suffices}

@@ -10,8 +10,8 @@ use Rattle.sessions.specs.Sessions.{RecordValue, SessionValue}
 use Rattle.graph_rules.specs.Settings.{setting_of}
 use Rattle.graph_rules.specs.Steps.{Event, Legal, state_after}
 use Rattle.graph_rules.specs.Sound.{AreBacked}
-use Rattle.key_states.specs.Closing.{IsFull, IsClosing}
-use Rattle.job_table.specs.Closes.{MayClose}
+use Rattle.shared_table.specs.Closing.{IsFull, IsClosing}
+use Rattle.shared_table.specs.Closes.{MayClose}
 use Rattle.driver.specs.declared.reports.Reports.{Reports}
 use Rattle.driver.specs.declared.fault.DriveFault.{DriveFault}
 use Rattle.driver.specs.declared.fault.DriveFault.TheVariants as fault

@@ -5,7 +5,6 @@ use mj_lexer::Name;
 use mj_project::Project;
 use profiles::Profile;
 use project_inputs::same_source;
-use result_bytes::Value;
 use sessions::Session;
 use std::alloc::{AllocError, Global};
 
@@ -36,10 +35,7 @@ pub(crate) fn has_files(
 /// The names of a session's files.
 fn names_in(past: &Session) -> &[Name] {
     match past.find(&Key::Files) {
-        Some(item) => match item.sealed().value() {
-            Value::Files(names) => names.names(),
-            _ => &[],
-        },
+        Some(item) => item.sealed().value().files(),
         None => &[],
     }
 }

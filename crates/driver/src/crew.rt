@@ -32,9 +32,26 @@ impl Crew {
     }
 }
 
-/// A worker: its number, its allocator, its runner, and its count of events.
+/// The jobs of a session: its project, which of them are taken, and the gate that is called around each run.
 #[derive(Drop)]
-pub(crate) struct Worker<J: Naming, R: Runner> {
+pub(crate) struct Jobs<'a, G> {
+    pub project: &'a Project,
+    pub lists: &'a Lists,
+    pub gate: &'a G,
+}
+
+/// Who works at the table.
+#[derive(Clone, Copy)]
+pub(crate) enum Workers {
+    /// The first worker does all jobs, alone.
+    First,
+    /// All workers share the jobs.
+    All,
+}
+
+/// A worker of a crew: its number, its allocator, its runner, and its count of events.
+#[derive(Drop)]
+pub(crate) struct Member<J: Naming, R: Runner> {
     number: u32,
     alloc: Global,
     runner: R,
@@ -42,12 +59,12 @@ pub(crate) struct Worker<J: Naming, R: Runner> {
 }
 
 /// So many workers, each with a runner of its own and a part of the ledger. The last one stands first.
-pub(crate) fn hire<J: Naming, R: Runner + Drop, F: Fn() -> R>(
+pub(crate) fn make_workers<J: Naming, R: Runner + Drop, F: Fn() -> R>(
     alloc: Global,
     all: &mut Share<J>,
     workers: usize,
     make: &F,
-) -> Result<Vec<Worker<J, R>>, AllocError>
+) -> Result<Vec<Member<J, R>>, AllocError>
     requires makes { F.IsAlwaysCallable make.now }
     requires few { workers ≤ 64 }
     requires parts { workers ≤ all.old.parts }
@@ -61,7 +78,7 @@ pub(crate) fn hire<J: Naming, R: Runner + Drop, F: Fn() -> R>(
     while 0 < left {
         left -= 1;
         let tally = Tally::new(all.split_off(1, 0));
-        team.push(Worker {
+        team.push(Member {
             number: left as u32,
             alloc,
             runner: make(),
@@ -81,42 +98,42 @@ pub(crate) fn work_at<
     rt: &T,
     counted: Counted<J, R>,
     list: Opened<Read>,
-    gate: &G,
-    project: &Project,
-    lists: &Lists,
-    team: &mut Vec<Worker<J, R>>,
-    alone: bool,
+    jobs: &Jobs<'_, G>,
+    team: &mut Vec<Member<J, R>>,
+    workers: Workers,
 ) -> Result<Counted<J, R>, AllocError>
     requires team { 0 < vec_len team.old }
     requires list { list.seen.book ≡ J.book }
     ensures { vec_len team.new ≡ vec_len team.old }
 {
-    if alone {
-        let first = team.len() - 1;
-        return Ok(work_alone(counted, gate, project, lists, &mut team[first]));
+    match workers {
+        Workers::First => {
+            let first = team.len() - 1;
+            Ok(work_alone(counted, jobs, &mut team[first]))
+        }
+        Workers::All => {
+            let shared = Shared::new(counted, list)?;
+            work_all(rt, &shared, jobs, team);
+            Ok(shared.into_counted())
+        }
     }
-    let shared = Shared::new(counted, list)?;
-    work_all(rt, &shared, gate, project, lists, team);
-    Ok(shared.into_counted())
 }
 
 /// A worker does all jobs at a table of its own.
 fn work_alone<J: Naming, R: Runner, G: Gate>(
     counted: Counted<J, R>,
-    gate: &G,
-    project: &Project,
-    lists: &Lists,
-    worker: &mut Worker<J, R>,
+    jobs: &Jobs<'_, G>,
+    worker: &mut Member<J, R>,
 ) -> Counted<J, R> {
     let mut counted = counted;
-    let Worker {
+    let Member {
         number,
         alloc,
         runner,
         tally,
     } = worker;
-    let mut seat = Alone::new(&mut counted, tally, gate);
-    do_jobs(*alloc, &mut seat, runner, project, lists, *number);
+    let mut seat = Alone::new(&mut counted, tally, jobs.gate);
+    do_jobs(*alloc, &mut seat, runner, jobs.project, jobs.lists, *number);
     counted
 }
 
@@ -126,23 +143,24 @@ fn work_all<
     R: Runner + Drop + Send + Sync,
     G: Gate + Sync,
     T: Threads + Wait + Sync,
->(
-    rt: &T,
-    shared: &Shared<J, R>,
-    gate: &G,
-    project: &Project,
-    lists: &Lists,
-    team: &mut Vec<Worker<J, R>>,
-)
+>(rt: &T, shared: &Shared<J, R>, jobs: &Jobs<'_, G>, team: &mut Vec<Member<J, R>>)
     requires { 0 < vec_len team.old }
     ensures { vec_len team.new ≡ vec_len team.old }
 {
     let workers = team.len();
+    let (project, lists, gate) = (jobs.project, jobs.lists, jobs.gate);
     thread::for_each_mut(
         rt,
         team.as_mut_slice(),
         workers,
-        &|_, worker| { work(rt, shared, gate, project, lists, worker) },
+        &|_, worker| {
+            let jobs = Jobs {
+                project,
+                lists,
+                gate,
+            };
+            work(rt, shared, &jobs, worker)
+        },
     );
 }
 
@@ -150,26 +168,24 @@ fn work_all<
 fn work<J: Naming, R: Runner, G: Gate, T: Wait>(
     rt: &T,
     shared: &Shared<J, R>,
-    gate: &G,
-    project: &Project,
-    lists: &Lists,
-    worker: &mut Worker<J, R>,
+    jobs: &Jobs<'_, G>,
+    worker: &mut Member<J, R>,
 ) {
-    let Worker {
+    let Member {
         number,
         alloc,
         runner,
         tally,
     } = worker;
-    let mut seat = shared.seat(*alloc, rt, gate, tally);
-    do_jobs(*alloc, &mut seat, runner, project, lists, *number);
+    let mut seat = shared.seat(*alloc, rt, jobs.gate, tally);
+    do_jobs(*alloc, &mut seat, runner, jobs.project, jobs.lists, *number);
 }
 
 /// How many events each worker made, by its number. Their shares are joined again.
-pub(crate) fn pay<J: Naming, R: Runner + Drop>(
+pub(crate) fn join_counts<J: Naming, R: Runner + Drop>(
     alloc: Global,
     all: &mut Share<J>,
-    team: Vec<Worker<J, R>>,
+    team: Vec<Member<J, R>>,
 ) -> Result<Vec<usize>, AllocError>
     requires none { all.old.amount ≡ 0 }
     ensures events { IfOk result (λ events. vec_len events ≡ vec_len team) }
@@ -179,7 +195,7 @@ pub(crate) fn pay<J: Naming, R: Runner + Drop>(
     let mut left = team;
     let mut events = Vec::new(alloc);
     while let Some(worker) = left.pop() {
-        let Worker {
+        let Member {
             number: _,
             alloc: _,
             runner: _,

@@ -7,7 +7,7 @@ ghost use Rattle.sessions.specs.declared.terms.Terms.{Terms};
 ghost use Rattle.sessions.specs.Sessions.{SessionValue, IsSession, most_number};
 ghost use Rattle.sessions.specs.Spelling.{file_of};
 ghost use Rattle.graph_rules.specs.Steps.{Event};
-ghost use Rattle.key_states.specs.Closing.{IsFull};
+ghost use Rattle.shared_table.specs.Closing.{IsFull};
 ghost use Rattle.driver.specs.declared.reports.Reports.{Reports};
 ghost use Rattle.next_sessions.specs.Nexts.{StandsApart, IsNextSession};
 ghost use Rattle.driver.specs.Sessions.{IsCrew, AreEventsOf, IsSessionOf, DriveGives};

@@ -14,5 +14,5 @@ pub use crew::Crew;
 pub use fault::DriveFault;
 pub use laws::{made_sessions_are_one, refusals_are_exact, sessions_are_next};
 pub use reports::Reports;
-pub use session::{drive, drive_as};
+pub use session::{Basis, drive, drive_as};
 pub use shared_table::{Gate, Open, Shared};

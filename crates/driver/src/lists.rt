@@ -40,7 +40,7 @@ pub(crate) enum Pass {
     /// Its members.
     Members,
     /// Its diagnostics.
-    Faults,
+    Diags,
 }
 
 /// The lists of jobs of a session: the trees of the files, and each pass over the classes. They take no memory.
@@ -51,7 +51,7 @@ pub(crate) struct Lists {
     methods: Numbers,
     supers: Numbers,
     members: Numbers,
-    faults: Numbers,
+    diags: Numbers,
 }
 
 impl Drop for Lists {
@@ -63,7 +63,7 @@ impl Drop for Lists {
             methods: _,
             supers: _,
             members: _,
-            faults: _,
+            diags: _,
         } = self;
     }
 }
@@ -78,7 +78,7 @@ impl Lists {
             methods: Numbers::new(),
             supers: Numbers::new(),
             members: Numbers::new(),
-            faults: Numbers::new(),
+            diags: Numbers::new(),
         }
     }
 
@@ -98,7 +98,7 @@ impl Lists {
             Pass::Methods => &self.methods,
             Pass::Supers => &self.supers,
             Pass::Members => &self.members,
-            Pass::Faults => &self.faults,
+            Pass::Diags => &self.diags,
         };
         numbers.take(classes, self.step)
     }

@@ -1,32 +1,38 @@
 //! One session.
 ghost use Rattle.std.specs.Prelude.{◌≡◌, ◌+◌, ◌↔◌, ◌≤◌, map, IsTrue, IfOk, IfSome, length, sum, vec_len, []};
 ghost use Rattle.item_ids.specs.declared.key.Key.TheVariants.{Answer};
-ghost use Rattle.job_table.specs.Tables.{state_of};
-ghost use Rattle.key_states.specs.Closing.{IsClosing};
-ghost use Rattle.job_table.specs.Closes.{MayClose};
+ghost use Rattle.shared_table.specs.Tables.{state_of};
+ghost use Rattle.shared_table.specs.Closing.{IsClosing};
+ghost use Rattle.shared_table.specs.Closes.{MayClose};
 ghost use Rattle.recorder.specs.Backed.{AreLawful};
 ghost use Rattle.sessions.specs.Terms.{first_terms};
 ghost use Rattle.sessions.specs.Sessions.{IsSession, session_in};
 ghost use Rattle.next_sessions.specs.Nexts.{StandsApart, IsNextSession};
+ghost use Rattle.shared_table.specs.Opened.{IsOpenedFor};
 ghost use Rattle.driver.specs.Sessions.{IsCrew, DriveGives, IsSessionOf};
 
 use crate::changes::has_files;
-use crate::crew::{Crew, Worker, hire, pay, work_at};
+use crate::crew::{Crew, Jobs, Member, Workers, join_counts, make_workers, work_at};
 use crate::fault::DriveFault;
 use crate::laws::sessions_are_next;
 use crate::lists::Lists;
 use crate::reports::Reports;
-use job_table::{CloseFault, OpenFault, Table};
-use known_list::Opened;
 use mj_project::Project;
-use recorder::{Read, Runner};
+use recorder::Runner;
 use sessions::{Session, Terms};
-use shared_table::{Counted, Gate, Naming};
+use shared_table::{CloseFault, Counted, Gate, Naming, OpenFault, Opening, Table};
 use std::alloc::{AllocError, Global};
 use std::marker::Brand;
-use std::sync::ledger::{Blank, Share};
+use std::sync::ledger::Share;
 use std::sync::{Arc, Wait};
 use std::thread::Threads;
+
+/// What a session is made on: its terms, and the previous session.
+#[derive(Drop)]
+pub struct Basis {
+    pub terms: Terms,
+    pub past: Option<Arc<Session>>,
+}
 
 /// Makes one session of a project, of the first terms, as `drive_as` does.
 pub fn drive<
@@ -49,10 +55,14 @@ pub fn drive<
     ensures next { IfOk result (λ done. StandsApart R.queries (session_in prev) done.0
         → IsNextSession R.queries first_terms (session_in prev) project.now done.0) }
 {
-    drive_as(rt, alloc, make, prev, project, Terms::first(), crew, gate)
+    let basis = Basis {
+        terms: Terms::first(),
+        past: prev,
+    };
+    drive_as(rt, alloc, make, basis, project, crew, gate)
 }
 
-/// Makes one session of a project, of these terms, over the previous session, by a crew of workers at one table. For
+/// Makes one session of a project, of these terms over the previous session, by a crew of workers at one table. For
 /// each of them a runner is made. The gate is called around each run.
 pub fn drive_as<
     R: Runner + Drop + Send + Sync,
@@ -63,42 +73,40 @@ pub fn drive_as<
     rt: &T,
     alloc: Global,
     make: &F,
-    prev: Option<Arc<Session>>,
+    basis: Basis,
     project: &Project,
-    terms: Terms,
     crew: Crew,
     gate: &G,
 ) -> Result<(Session, Reports), DriveFault>
     requires { F.IsAlwaysCallable make.now }
-    ensures gives { DriveGives R.queries terms (session_in prev) project.now crew.workers result }
+    ensures gives { DriveGives R.queries basis.terms (session_in basis.past) project.now
+        crew.workers result }
     // A session that stands apart from the previous one is the next session.
-    ensures next { IfOk result (λ done. StandsApart R.queries (session_in prev) done.0
-        → IsNextSession R.queries terms (session_in prev) project.now done.0) }
+    ensures next { IfOk result (λ done. StandsApart R.queries (session_in basis.past) done.0
+        → IsNextSession R.queries basis.terms (session_in basis.past) project.now done.0) }
 {
     let Crew { workers, step } = crew;
+    let Basis { terms, past } = basis;
     if !is_crew(workers) {
         return Err(DriveFault::Workers);
     }
     // What the types of the project, the past and the runner keep, from which the law on sessions has the clause `next`.
     let _files = project.files();
-    past_is_session(&prev);
+    past_is_session(&past);
     keeps_laws::<R>();
     sessions_are_next();
-    match Table::open_by(rt, alloc, prev, project, terms, workers) {
+    match Table::open_by(rt, alloc, past, project, terms, workers) {
         Ok(table) => {
-            let alone = workers == 1 || is_unchanged(alloc, &table, project)?;
-            let done = drive_table::<Brand, R, F, G, T>(
-                rt,
-                alloc,
-                make,
-                table,
+            let at_table = workers_for(alloc, &table, project, workers)?;
+            let lists = Lists::new(step);
+            let jobs = Jobs {
                 project,
-                workers,
-                alone,
+                lists: &lists,
                 gate,
-                &Lists::new(step),
-                Blank::new(workers as u64),
-                Opened::new(),
+            };
+            let opening = Opening::new(table, workers as u64);
+            let done = drive_table::<Brand, R, F, G, T>(
+                rt, alloc, make, opening, &jobs, workers, at_table,
             )?;
             // A session keeps in its type what its records are.
             let _records = done.0.records();
@@ -130,7 +138,7 @@ fn is_crew(workers: usize) -> bool
     1 <= workers && workers <= 64
 }
 
-/// Does all jobs at a table that was just opened, and closes it. One worker alone does them where that is asked for.
+/// Does all jobs at a table that was just opened, by the workers who work at it, and closes it.
 fn drive_table<
     J: Naming + Send + Sync,
     R: Runner + Drop + Send + Sync,
@@ -141,30 +149,21 @@ fn drive_table<
     rt: &T,
     alloc: Global,
     make: &F,
-    table: Table<R>,
-    project: &Project,
+    opening: Opening<R>,
+    jobs: &Jobs<'_, G>,
     workers: usize,
-    alone: bool,
-    gate: &G,
-    lists: &Lists,
-    blank: Blank,
-    list: Opened<Read>,
+    at_table: Workers,
 ) -> Result<(Session, Reports), AllocError>
     requires makes { F.IsAlwaysCallable make.now }
-    requires name { blank.name ≡ J.name }
-    requires parts { blank.parts ≡ J.parts }
-    requires list { list.seen.book ≡ J.book }
-    requires workers { blank.parts ≡ workers }
+    requires opened { IsOpenedFor J.name J.parts J.book J.opened opening }
+    requires workers { opening.blank.parts ≡ workers }
     requires crew { IsCrew workers }
-    requires opened { table ≡ J.opened }
-    requires first { table.history ≡ [] }
     ensures { IfOk result (λ done. IsSessionOf R.queries J.opened.terms J.opened.past
         J.opened.project workers done.0 done.1) }
 {
-    let (book, mut all) = blank.open::<J>();
-    let mut team = hire::<J, R, F>(alloc, &mut all, workers, make)?;
-    let counted = Counted::new(table, book);
-    let counted = work_at(rt, counted, list, gate, project, lists, &mut team, alone)?;
+    let (counted, mut all, list) = opening.named::<J>();
+    let mut team = make_workers::<J, R, F>(alloc, &mut all, workers, make)?;
+    let counted = work_at(rt, counted, list, jobs, &mut team, at_table)?;
     end(alloc, all, team, counted)
 }
 
@@ -172,7 +171,7 @@ fn drive_table<
 fn end<J: Naming, R: Runner + Drop>(
     alloc: Global,
     all: Share<J>,
-    team: Vec<Worker<J, R>>,
+    team: Vec<Member<J, R>>,
     counted: Counted<J, R>,
 ) -> Result<(Session, Reports), AllocError>
     requires parts { all.parts + vec_len team ≡ J.parts }
@@ -181,7 +180,7 @@ fn end<J: Naming, R: Runner + Drop>(
         J.opened.project (vec_len team) done.0 done.1) }
 {
     let mut all = all;
-    let events = pay(alloc, &mut all, team)?;
+    let events = join_counts(alloc, &mut all, team)?;
     let table = counted.end(&mut all);
     session_of(&table, events)
 }
@@ -199,6 +198,20 @@ fn session_of<R: Runner>(
     table.laws();
     let history = table.history().len();
     Ok((close(table)?, Reports { events, history }))
+}
+
+/// Who works at a table: the first worker alone, if there is no other or as a rule nothing is run.
+fn workers_for<R: Runner>(
+    alloc: Global,
+    table: &Table<R>,
+    project: &Project,
+    workers: usize,
+) -> Result<Workers, AllocError> {
+    if workers == 1 || is_unchanged(alloc, table, project)? {
+        Ok(Workers::First)
+    } else {
+        Ok(Workers::All)
+    }
 }
 
 /// Whether the session before a table is of the same profile, and has just the files of the project.

@@ -5,9 +5,10 @@ use Rattle.std.specs.Str.{bytes_eq}
 use Rattle.std.specs.Ordering.{nat_cmp, is_eq}
 use Rattle.std.specs.Cmp.Lexicographic.{slice_cmp}
 use Rattle.std.proofs.lemmas.List.{take_more, length-map, length-take-le}
+use Rattle.std.proofs.lemmas.Map.Text.{is_eq-slice_cmp}
 use Rattle.mj_tree.specs.Trees.{Name}
 use Rattle.mj_project.specs.Projects.{SourceFile, names_of, IsFileName}
-use Rattle.mj_tree.proofs.Positions.{names_tie, same_name, position_added, position_kept}
+use Rattle.mj_tree.proofs.Positions.{same_name, position_added, position_kept, none_of}
 
 abbrev pub place_of : List SourceFile → Name → Option ℕ
 place_of fs q = position (λ f. bytes_eq f.name q) fs
@@ -34,17 +35,13 @@ pub index_added : (fs : List SourceFile) (n : ℕ) (x : SourceFile) (found after
     → ((q : Name) → found q ≡ place_of (take n fs) q) → is_some (found x.name) ≡ false
     → ((q : Name) → after q ≡ cond (is_eq (slice_cmp nat_cmp x.name q)) (Some n) (found q)) → (q : Name) → after q ≡ place_of (take (n + 1) fs) q
 index_added fs n x found after lt is so_far new puts q =
-    rw (more fs n x lt is) (puts q ∙ (ap (λ b. cond b (Some n) (found q)) (names_tie x.name q) ∙ by (bytes_eq x.name q) refl))
+    rw (more fs n x lt is) (puts q ∙ (ap (λ b. cond b (Some n) (found q)) (is_eq-slice_cmp x.name q) ∙ by (bytes_eq x.name q) refl))
   where
     count : length (take n fs) ≡ n
     count = length-take-le n fs (omega arith)
 
     nothing : found x.name ≡ None
     nothing = none_of (found x.name) new
-      where
-        none_of : (o : Option ℕ) → is_some o ≡ false → o ≡ None
-        none_of None e = refl
-        none_of (Some i) e = absurd cc
 
     by : (b : Bool) → bytes_eq x.name q ≡ b → cond b (Some n) (found q) ≡ position (λ f. bytes_eq f.name q) (take n fs ++ x ∷ [])
     by true t =

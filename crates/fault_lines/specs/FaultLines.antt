@@ -93,18 +93,18 @@ IsSpotOfProject files code (places.Method number) spot = spot ≡ nowhere
 IsSpotOfProject files code (places.Inside method token) spot = spot ≡ nowhere
 
 -- a diagnostic with the name of its class; one of the project itself has none
-pub record Finding : Type 0 where
+pub record AnswerDiagnostic : Type 0 where
   pub class : Option Name
   pub fault : Diagnostic
 
-abbrev pub of_project : Diagnostic → Finding
+abbrev pub of_project : Diagnostic → AnswerDiagnostic
 of_project fault = record { class = None; fault = fault }
 
-abbrev pub of_class : Name → Diagnostic → Finding
+abbrev pub of_class : Name → Diagnostic → AnswerDiagnostic
 of_class name fault = record { class = Some name; fault = fault }
 
 -- the diagnostics of an answer: the project's own, then those of each class
-abbrev pub findings : AnswerValue → List Finding
+abbrev pub findings : AnswerValue → List AnswerDiagnostic
 findings answer =
     map of_project answer.faults
     ++ flat_map (λ class. map (of_class class.name) class.faults) answer.classes
@@ -118,10 +118,23 @@ IsSpotOf files (Some class) fault spot =
 abbrev pub spot_of_line : FaultLine → Spot
 spot_of_line line = record { file = option_map (λ f. f.now) line.file; at = line.at }
 
-pub record IsLineOf (files : List SourceFile) (finding : Finding) (line : FaultLine) : Type 0 where
+pub record IsLineOf (files : List SourceFile) (finding : AnswerDiagnostic) (line : FaultLine) : Type 0 where
   pub code : line.code ≡ finding.fault.code
   pub spot : IsSpotOf files finding.class finding.fault (spot_of_line line)
 
 -- a line for each diagnostic of the answer, in its order
 abbrev pub AreLinesOf : List SourceFile → AnswerValue → List FaultLine → Type 0
 AreLinesOf files answer lines = Pairwise (IsLineOf files) (findings answer) lines
+
+-- The class of this name is the one with this number of a file, or stands in none.
+abbrev pub StandsIn : List SourceFile → Name → Option SourceFile → ℕ → Type 0
+StandsIn files name file number =
+    (place : Place)
+    → spot_in_class files (decl (classes_in files) name) place ≡ spot_in_file file number place
+
+-- lines with those of these diagnostics of such a class behind them
+abbrev pub AddsLines : Option SourceFile → ℕ → List Diagnostic → List FaultLine → List FaultLine → Type 0
+AddsLines file number faults old new =
+    (files : List SourceFile) (name : Name) (before : List AnswerDiagnostic)
+    → StandsIn files name file number → Pairwise (IsLineOf files) before old
+    → Pairwise (IsLineOf files) (before ++ map (of_class name) faults) new

@@ -1,5 +1,5 @@
-//! A project whose files are read once.
-ghost use Rattle.std.specs.Prelude.{◌≡◌, ◌++◌, ◌∷◌, [], IfOk, OnOk, option_map};
+//! A project whose files are parsed once.
+ghost use Rattle.std.specs.Prelude.{◌≡◌, ◌++◌, ◌∷◌, [], IfOk, IfSome, OnOk, option_map};
 ghost use Rattle.mj_tree.specs.Views.{file_view};
 ghost use Rattle.mj_classes.specs.Classes.{files_view};
 ghost use Rattle.mj_project.specs.Projects.{source_view, sources_view, IsProject};
@@ -7,17 +7,17 @@ ghost use Rattle.file_index.specs.Reading.{IsStop, tokens_or_none};
 ghost use Rattle.mj_rules.specs.Sentences.{file_of, trees_of};
 
 use file_index::{ReadFile, read};
-use mj_lexer::Token;
+use mj_lexer::{LexFault, Token, lex};
 use mj_project::Project;
 use mj_tree::FileTree;
 use std::alloc::{AllocError, Global};
 use std::marker::Model;
 
-/// A file with its tokens, none if it isn't cut into tokens, and with the byte of its error, if it is no sentence and
-/// the error has a place. Contracts see the file.
+/// A file with the byte of its error, if it is no sentence and the error has a place, and with its tokens, if they are
+/// kept. Contracts see the file.
 pub struct ReadText<'a> {
     file: &'a (String, Vec<u8>),
-    tokens: Vec<Token>,
+    tokens: Option<Vec<Token>>,
     stop: Option<usize>,
 }
 
@@ -32,7 +32,7 @@ impl Drop for ReadText<'_> {
 }
 
 impl<'a> Model for ReadText<'a> {
-    ghost use Rattle.std.specs.Prelude.{◌≡◌};
+    ghost use Rattle.std.specs.Prelude.{◌≡◌, IfSome};
     ghost use Rattle.mj_project.specs.Projects.{SourceFile, source_view};
     ghost use Rattle.file_index.specs.Reading.{IsStop, tokens_or_none};
 
@@ -41,7 +41,7 @@ impl<'a> Model for ReadText<'a> {
     ghost view = { λ t. source_view t.file.now };
 
     ghost invariant = { λ t.
-        (t.tokens.items ≡ tokens_or_none (source_view t.file.now).bytes)
+        IfSome t.tokens (λ ts. ts.items ≡ tokens_or_none (source_view t.file.now).bytes)
         × IsStop (source_view t.file.now).bytes t.stop };
 }
 
@@ -62,11 +62,14 @@ impl<'a> ReadText<'a> {
         bytes.as_slice()
     }
 
-    /// The file's tokens, none if it isn't cut into tokens.
-    pub fn tokens(&self) -> &[Token]
-        ensures { result.now ≡ tokens_or_none self.now.bytes }
+    /// The file's tokens, if they are kept: none if it isn't cut into tokens.
+    pub fn tokens(&self) -> Option<&[Token]>
+        ensures { IfSome result (λ ts. ts.now ≡ tokens_or_none self.now.bytes) }
     {
-        self.tokens.as_slice()
+        match &self.tokens {
+            Some(tokens) => Some(tokens.as_slice()),
+            None => None,
+        }
     }
 
     /// The byte of the file's error, if it is no sentence.
@@ -74,6 +77,38 @@ impl<'a> ReadText<'a> {
         ensures { IsStop self.now.bytes result }
     {
         self.stop
+    }
+
+    /// The same file, with its tokens or without.
+    pub fn with_tokens(&self, alloc: Global, are_kept: bool) -> Result<Self, AllocError>
+        ensures { IfOk result (λ t. t ≡ self.now) }
+    {
+        let tokens = if are_kept {
+            Some(cut(alloc, self.bytes())?)
+        } else {
+            None
+        };
+        Ok(ReadText {
+            file: self.file,
+            tokens,
+            stop: self.stop,
+        })
+    }
+}
+
+/// The tokens of a text, none if it isn't cut into tokens.
+pub fn cut(alloc: Global, text: &[u8]) -> Result<Vec<Token>, AllocError>
+    ensures { IfOk result (λ ts. ts.items ≡ tokens_or_none text.now) }
+{
+    match lex(alloc, text) {
+        Ok(tokens) => Ok(tokens),
+        Err(LexFault::OutOfMemory) => Err(AllocError),
+        Err(
+            LexFault::BadByte(_)
+            | LexFault::OpenComment(_)
+            | LexFault::NameTooLong(_)
+            | LexFault::FileTooLong,
+        ) => Ok(Vec::new(alloc)),
     }
 }
 
@@ -88,8 +123,16 @@ fn read_source<'a>(
 {
     let (_, bytes) = file;
     let found = read(alloc, bytes)?;
-    let ReadFile { tokens, tree, stop } = found;
-    let text = ReadText { file, tokens, stop };
+    let ReadFile {
+        tokens: _,
+        tree,
+        stop,
+    } = found;
+    let text = ReadText {
+        file,
+        tokens: None,
+        stop,
+    };
     Ok((text, tree))
 }
 
@@ -130,7 +173,7 @@ fn add_sources<'a>(
     Ok(())
 }
 
-/// A project with what its files were read as. Contracts see the files.
+/// A project with the tree of each file, without its tokens. Contracts see the files.
 pub struct ReadProject<'a> {
     texts: Vec<ReadText<'a>>,
     trees: Vec<Option<FileTree>>,

@@ -1,112 +1,127 @@
-//! The files of a project by their lines and tokens, found by their names.
-ghost use Rattle.std.specs.Prelude.{◌≡◌, ℕ, List, map, position, option_copied, slice_get, find, None, Some, All, IfOk, OnOk};
+//! The files of a project, found by their names.
+ghost use Rattle.std.specs.Prelude.{◌≡◌, ℕ, List, map, position, option_copied, slice_get, find, None, Some, All, IfOk, IfSome, OnOk};
 ghost use Rattle.std.specs.Str.{bytes_eq};
 ghost use Rattle.std.specs.BTreeMap.{get};
 ghost use Rattle.std.specs.Cmp.Lexicographic.{slice_cmp};
 ghost use Rattle.std.specs.Ordering.{nat_cmp};
 ghost use Rattle.mj_project.specs.Projects.{names_of, IsFileName};
-ghost use Rattle.fault_lines.specs.FaultLines.{byte_in, place_in, token_byte, file_named, IsStopPlace};
+ghost use Rattle.fault_lines.specs.FaultLines.{place_in, file_named, IsStopPlace};
 
+use crate::index::IndexedText;
 use crate::places::SourcePlace;
-use crate::sources::ReadText;
-use file_index::{LinedText, TokenIndex};
-use mj_lexer::{Name, Token};
+use crate::sources::{ReadText, cut};
+use file_index::LinedText;
+use mj_lexer::Name;
 use mj_tree::Place;
 use std::alloc::{AllocError, Global};
 use std::collections::BTreeMap;
 use std::marker::Model;
 
-/// A file by its lines and its tokens. Contracts see the file.
-pub struct IndexedText<'a, 't> {
-    name: &'a str,
-    lines: LinedText<'a>,
-    tokens: TokenIndex<'t>,
-    stop: Option<usize>,
+/// A file, with its index if its tokens are kept. Contracts see the file.
+pub struct FileText<'a, 't> {
+    text: &'t ReadText<'a>,
+    index: Option<IndexedText<'a, 't>>,
 }
 
-impl Drop for IndexedText<'_, '_> {
+impl Drop for FileText<'_, '_> {
     fn drop(self) {
-        let IndexedText {
-            name: _,
-            lines: _,
-            tokens: _,
-            stop: _,
-        } = self;
+        let FileText { text: _, index: _ } = self;
     }
 }
 
-impl<'a, 't> Model for IndexedText<'a, 't> {
-    ghost use Rattle.std.specs.Prelude.{◌≡◌};
+impl<'a, 't> Model for FileText<'a, 't> {
+    ghost use Rattle.std.specs.Prelude.{◌≡◌, IfSome};
     ghost use Rattle.mj_project.specs.Projects.{SourceFile};
-    ghost use Rattle.file_index.specs.Reading.{IsStop, tokens_or_none};
 
     ghost Value = { SourceFile };
 
-    ghost view = { λ t. record { name = t.name.now; bytes = t.lines } };
+    ghost view = { λ t. t.text.now };
 
-    ghost invariant = { λ t. (t.tokens ≡ tokens_or_none t.lines) × IsStop t.lines t.stop };
+    ghost invariant = { λ t. IfSome t.index (λ index. index ≡ t.text.now) };
 }
 
-impl<'a, 't> IndexedText<'a, 't> {
-    /// The file that was read with its lines and its tokens.
+impl<'a, 't> FileText<'a, 't> {
+    /// The file that was read.
     fn new(alloc: Global, text: &'t ReadText<'a>) -> Result<Self, AllocError>
         ensures { IfOk result (λ t. t ≡ text.now) }
     {
-        Ok(IndexedText {
-            name: text.name(),
-            lines: LinedText::new(alloc, text.bytes())?,
-            tokens: TokenIndex::new(alloc, text.tokens())?,
-            stop: text.stop(),
-        })
+        let index = match text.tokens() {
+            Some(tokens) => Some(IndexedText::new(alloc, text, tokens)?),
+            None => None,
+        };
+        Ok(FileText { text, index })
     }
 
     /// The file's name.
     pub fn name(&self) -> &'a str
         ensures { result.now ≡ self.now.name }
     {
-        self.name
+        self.text.name()
     }
 
-    /// The first byte of the token of a place in the class with this number.
-    fn byte_of(&self, class: usize, place: &Place) -> Option<usize>
-        ensures { result ≡ byte_in self.now.bytes class place.now }
+    /// What was read of the file.
+    pub fn text(&self) -> &'t ReadText<'a>
+        ensures { result.now ≡ self.now }
     {
-        let number = self.tokens.locate(class, place)?;
-        token_byte(self.tokens.tokens(), number)
+        self.text
+    }
+
+    /// The file's index, if its tokens are kept.
+    pub fn index(&self) -> Option<&IndexedText<'a, 't>>
+        ensures { IfSome result (λ index. index.now ≡ self.now) }
+    {
+        match &self.index {
+            Some(index) => Some(index),
+            None => None,
+        }
     }
 
     /// A place in the class with this number.
-    pub fn place(&self, class: usize, place: &Place) -> Option<SourcePlace<'a>>
-        ensures { result ≡ place_in self.now.bytes class place.now }
+    pub fn place(
+        &self,
+        alloc: Global,
+        class: usize,
+        place: &Place,
+    ) -> Result<Option<SourcePlace<'a>>, AllocError>
+        ensures { IfOk result (λ at. at ≡ place_in self.now.bytes class place.now) }
     {
-        let byte = self.byte_of(class, place)?;
-        Some(SourcePlace::new(&self.lines, byte))
+        match self.index() {
+            Some(index) => Ok(index.place(class, place)),
+            None => place_alone(alloc, self.text, class, place),
+        }
     }
 
     /// The place of the file's error.
-    pub fn stop(&self) -> Option<SourcePlace<'a>>
-        ensures { IsStopPlace self.now.bytes result }
+    pub fn stop(&self, alloc: Global) -> Result<Option<SourcePlace<'a>>, AllocError>
+        ensures { IfOk result (IsStopPlace self.now.bytes) }
     {
-        let byte = self.stop?;
-        Some(SourcePlace::new(&self.lines, byte))
+        let Some(byte) = self.text.stop() else {
+            return Ok(None);
+        };
+        let lines = LinedText::new(alloc, self.text.bytes())?;
+        Ok(Some(SourcePlace::new(&lines, byte)))
     }
 }
 
-/// The first byte of the token with this number.
-fn token_byte(tokens: &[Token], number: usize) -> Option<usize>
-    ensures { result ≡ token_byte tokens.now number }
+/// A place in the class with this number of a file, which is cut into tokens for it.
+fn place_alone<'a>(
+    alloc: Global,
+    text: &ReadText<'a>,
+    class: usize,
+    place: &Place,
+) -> Result<Option<SourcePlace<'a>>, AllocError>
+    ensures { IfOk result (λ at. at ≡ place_in text.now.bytes class place.now) }
 {
-    match tokens.get(number) {
-        Some(token) => Some(token.start),
-        None => None,
-    }
+    let tokens = cut(alloc, text.bytes())?;
+    let index = IndexedText::new(alloc, text, &tokens)?;
+    Ok(index.place(class, place))
 }
 
 /// The files of a project, in order, found by their names too. Contracts see the files.
 #[derive(Drop)]
 pub struct Texts<'a, 't> {
-    texts: Vec<IndexedText<'a, 't>>,
-    numbers: BTreeMap<Name, usize>,
+    texts: Vec<FileText<'a, 't>>,
+    numbers: &'t BTreeMap<Name, usize>,
 }
 
 impl<'a, 't> Model for Texts<'a, 't> {
@@ -121,20 +136,20 @@ impl<'a, 't> Model for Texts<'a, 't> {
 
     ghost view = { λ t. t.texts.items };
 
-    ghost invariant = { λ t. (name : List ℕ) → get (slice_cmp nat_cmp) t.numbers name
+    ghost invariant = { λ t. (name : List ℕ) → get (slice_cmp nat_cmp) t.numbers.now name
         ≡ position (λ f. bytes_eq f.name name) t.texts.items };
 }
 
-/// Each file with its lines and its tokens.
+/// Each file, with its index if its tokens are kept.
 fn index_texts<'a, 't>(
     alloc: Global,
     texts: &'t [ReadText<'a>],
-) -> Result<Vec<IndexedText<'a, 't>>, AllocError>
+) -> Result<Vec<FileText<'a, 't>>, AllocError>
     ensures { IfOk result (λ indexed. indexed.items ≡ texts.now) }
 {
     let mut indexed = Vec::new(alloc);
     for text in texts {
-        indexed.push(IndexedText::new(alloc, text)?)?;
+        indexed.push(FileText::new(alloc, text)?)?;
     }
     Ok(indexed)
 }
@@ -142,7 +157,7 @@ fn index_texts<'a, 't>(
 /// Adds the number of the first file of each name to a map that has none.
 fn add_names(
     alloc: Global,
-    texts: &[IndexedText],
+    texts: &[ReadText],
     numbers: &mut BTreeMap<Name, usize>,
 ) -> Result<(), AllocError>
     requires names { All IsFileName (names_of texts.now) }
@@ -160,7 +175,7 @@ fn add_names(
 }
 
 /// The number of the first file of each name.
-fn number_names(alloc: Global, texts: &[IndexedText]) -> Result<BTreeMap<Name, usize>, AllocError>
+pub fn number_names(alloc: Global, texts: &[ReadText]) -> Result<BTreeMap<Name, usize>, AllocError>
     requires { All IsFileName (names_of texts.now) }
     ensures { IfOk result (λ numbers. (name : List ℕ) → get (slice_cmp nat_cmp) numbers name
         ≡ position (λ f. bytes_eq f.name name) texts.now) }
@@ -171,25 +186,29 @@ fn number_names(alloc: Global, texts: &[IndexedText]) -> Result<BTreeMap<Name, u
 }
 
 impl<'a, 't> Texts<'a, 't> {
-    /// The files that were read.
-    pub fn new(alloc: Global, texts: &'t [ReadText<'a>]) -> Result<Self, AllocError>
-        requires { All IsFileName (names_of texts.now) }
+    /// The files that were read, with their numbers.
+    pub fn new(
+        alloc: Global,
+        texts: &'t [ReadText<'a>],
+        numbers: &'t BTreeMap<Name, usize>,
+    ) -> Result<Self, AllocError>
+        requires { (name : List ℕ) → get (slice_cmp nat_cmp) numbers.now name
+            ≡ position (λ f. bytes_eq f.name name) texts.now }
         ensures { IfOk result (λ t. t ≡ texts.now) }
     {
         let texts = index_texts(alloc, texts)?;
-        let numbers = number_names(alloc, &texts)?;
         Ok(Texts { texts, numbers })
     }
 
     /// The file with this number.
-    pub fn get(&self, number: usize) -> Option<&IndexedText<'a, 't>>
+    pub fn get(&self, number: usize) -> Option<&FileText<'a, 't>>
         ensures { option_copied result ≡ slice_get self.now number }
     {
         self.texts.get(number)
     }
 
     /// The file of a name.
-    pub fn named(&self, name: &Name) -> Option<&IndexedText<'a, 't>>
+    pub fn named(&self, name: &Name) -> Option<&FileText<'a, 't>>
         ensures { option_copied result ≡ file_named self.now name.now }
     {
         let number = *self.numbers.get(name)?;

@@ -5,4 +5,4 @@ mod print;
 mod sealed;
 
 pub use print::Print;
-pub use sealed::{OpenFault, Sealed, open_sealed, seal, seal_or_share};
+pub use sealed::{Sealed, SealedFault, open_sealed, seal, seal_or_share};

@@ -50,7 +50,7 @@ impl Model for Sealed {
 
 /// Why bytes and a fingerprint are no sealed value of a kind.
 #[derive(Clone, Copy, Debug, PartialEq, Eq, Error)]
-pub enum OpenFault {
+pub enum SealedFault {
     /// The bytes are refused.
     #[error("{0}")]
     Refused(Refusal),
@@ -158,7 +158,7 @@ pub fn open_sealed(
     kind: Kind,
     bytes: Vec<u8>,
     print: Print,
-) -> Result<Sealed, OpenFault>
+) -> Result<Sealed, SealedFault>
     // What is opened is a value of the kind, with these bytes and this fingerprint.
     ensures found { IfOk result (λ v. IsValue v × (kind_of_value v ≡ kind) × (bytes.items ≡ canon v)
         × (print.0 ≡ print_of v)) }
@@ -171,10 +171,10 @@ pub fn open_sealed(
 {
     let value = match decode(alloc, kind, bytes.as_slice()) {
         Ok(value) => value,
-        Err(refusal) => return Err(OpenFault::Refused(refusal)),
+        Err(refusal) => return Err(SealedFault::Refused(refusal)),
     };
     if Print::of(bytes.as_slice()) != print {
-        return Err(OpenFault::WrongPrint);
+        return Err(SealedFault::WrongPrint);
     }
     Ok(Sealed {
         value,

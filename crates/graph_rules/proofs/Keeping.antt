@@ -3,11 +3,14 @@ use Rattle.std.proofs.Common.{◌≡◌, ◌≢◌, ℕ, ◌<◌, List, [], ◌�
 use Rattle.std.specs.Prelude.{if◌then◌else◌}
 use Rattle.std.specs.List.{AllByRecursion}
 use Rattle.item_ids.specs.declared.key.Key.{Key}
+use Rattle.item_ids.specs.Inputs.{rank}
+use Rattle.item_ids.specs.KeyLists.{AreLower, NoneTwice}
 use Rattle.result_bytes.specs.declared.value.Value.{Value}
+use Rattle.result_bytes.specs.Values.{IsOfKind}
 use Rattle.profiles.specs.declared.profile.Profile.{Profile}
 use Rattle.recorder.specs.Projects.{Project}
 use Rattle.recorder.specs.Runs.{IsOutcome}
-use Rattle.recorder.specs.Backed.{Meaning, ReadLists, ReadValue, rank, keys, IsOfKind, AreLower, NoneTwice}
+use Rattle.recorder.specs.Backed.{Meaning, ReadLists, ReadValue, keys}
 use Rattle.sessions.specs.declared.mark.Mark.{Mark}
 use Rattle.sessions.specs.declared.mark.Mark.TheVariants.{Input, Green, Executed}
 use Rattle.sessions.specs.Sessions.{Entry}

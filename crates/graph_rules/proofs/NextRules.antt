@@ -7,11 +7,13 @@ use Rattle.std.proofs.lemmas.Slice.Eq.{bytes_eq-Decides}
 use Rattle.std.specs.Prelude.{if◌then◌else◌, Contains, slice_index_or, bytes_eq}
 use Rattle.std.specs.List.{AllByRecursion}
 use Rattle.item_ids.specs.declared.key.Key.{Key}
+use Rattle.item_ids.proofs.Lists.{all_push, all_from}
+use Rattle.item_ids.specs.Inputs.{rank}
 use Rattle.result_bytes.specs.declared.value.Value.{Value}
 use Rattle.fingerprint.specs.Prints.{print_of}
 use Rattle.mj_project.specs.Projects.{IsProject}
 use Rattle.recorder.specs.Projects.{Project}
-use Rattle.recorder.specs.Backed.{Meaning, ReadLists, ReadValue, rank, keys, RunnerLaws, Gives, GivesEach}
+use Rattle.recorder.specs.Backed.{Meaning, ReadLists, ReadValue, keys, RunnerLaws, Gives, GivesEach}
 use Rattle.sessions.specs.declared.mark.Mark.{Mark}
 use Rattle.sessions.specs.declared.mark.Mark.TheVariants.{Input, Green, Executed}
 use Rattle.sessions.specs.Sessions.{Entry}
@@ -32,10 +34,6 @@ use Rattle.graph_rules.proofs.OneNext.{next_is_one}
 
 -- ---- lists
 
-all_last : {X : Type 0} (P : X → Type 0) (xs : List X) (x : X) → AllByRecursion P xs → P x → AllByRecursion P (xs ++ x ∷ [])
-all_last P [] x a p = (p, tt)
-all_last P (y ∷ xs) x a p = (a.0, all_last P xs x a.1 p)
-
 last_cons : {X : Type 0} (xs : List X) (x : X) (ys : List X) → (xs ++ x ∷ []) ++ ys ≡ xs ++ x ∷ ys
 last_cons [] x ys = refl
 last_cons {X} (y ∷ xs) x ys = ap (λ (zs : List X). y ∷ zs) (last_cons xs x ys)
@@ -45,12 +43,6 @@ has_mid xs e ys = let lt : 0 < length (e ∷ ys) = omega arith in Contains-appen
 
 pub all_at : {X : Type 0} (P : X → Type 0) (xs : List X) → AllByRecursion P xs → (x : X) → Contains xs x → P x
 all_at P xs a x has = All-contains P xs x (All-from_recursion P xs a) has
-
-pub all_from : {X : Type 0} (P : X → Type 0) (xs : List X) → ((x : X) → Contains xs x → P x) → AllByRecursion P xs
-all_from P [] h = tt
-all_from P (x ∷ xs) h =
-    let l : 0 < length (x ∷ xs) = omega arith in
-    (h x (0, l, refl), all_from P xs (λ e has. let l : suc has.0 < length (x ∷ xs) = let b = has.1 in omega arith in h e (suc has.0, l, has.2)))
 
 take_front : (pre : List Key) (rest : List Key) → take (length pre) (pre ++ rest) ≡ pre
 take_front [] rest = refl
@@ -72,7 +64,7 @@ from_take : (n : ℕ) (xs : List Key) (e : Key) → Contains (take n xs) e → C
 from_take n xs e has = from_take_at n xs e has.0 has.1 has.2
 
 -- a list of which one element more is the list itself
-whole_take : (xs ys : List Key) → take (suc (length xs)) ys ≡ xs → ys ≡ xs
+pub whole_take : (xs ys : List Key) → take (suc (length xs)) ys ≡ xs → ys ≡ xs
 whole_take [] [] e = refl
 whole_take [] (y ∷ ys) e = absurd (cc)
 whole_take (x ∷ xs) [] e = e
@@ -94,7 +86,7 @@ settle : (Good : Key → Type 0) (all : List Key) (Reads : Key → Type 0)
 settle Good all Reads next good pre [] is before = rw (is, append-nil) before
 settle Good all Reads next good pre (e ∷ rest) is before =
     let here : Good e = good e (rw is (has_mid pre e rest)) (next pre e rest is before) in
-    settle Good all Reads next good (pre ++ e ∷ []) rest (is ∙ sym (last_cons pre e rest)) (all_last Good pre e before here)
+    settle Good all Reads next good (pre ++ e ∷ []) rest (is ∙ sym (last_cons pre e rest)) (all_push Good pre e before here)
 
 -- ---- edges
 
@@ -115,7 +107,8 @@ unchanged_by pr y v es m p yd =
 not_needed : (o : Option Entry) (r : Entry) (past : Past) (s : State) → o ≡ Some r → walk past s r.reads ≡ AllUnchanged → MayRun (option_map (λ x. walk past s x.reads) o) → ⊥
 not_needed o r past s is all m = let f = rw (is, all) at m in f
 
-print_some : (past : Past) (e : Key) (x : Entry) → past e ≡ Some x → print_in past e ≡ Some (print_of x.value)
+-- the fingerprint of a key that the session has
+pub print_some : (past : Past) (e : Key) (x : Entry) → past e ≡ Some x → print_in past e ≡ Some (print_of x.value)
 print_some past e x is = ap (option_map (λ r. print_of r.value)) is
 
 -- what a key that is done stands for in the project

@@ -9,9 +9,8 @@ use Rattle.item_ids.specs.Keys.{key_cmp}
 use Rattle.result_bytes.specs.Values.{IsValue}
 use Rattle.result_bytes.proofs.ValueLaws.{one_value}
 use Rattle.fingerprint.specs.Prints.{print_of}
-use Rattle.sessions.specs.Sessions.{RecordValue, SessionValue, IsSession, FitsBehind, AreOnce, Entry, key_at, entry_of, entries, entry_at, past_entry}
+use Rattle.sessions.specs.Sessions.{RecordValue, SessionValue, IsSession, FitsBehind, Entry, key_at, entry_of, entries, entry_at, past_entry}
 use Rattle.sessions.proofs.EntryRules.{found_at, key_of_place, entry_of_place, has_key, has_kind, has_lower, has_once, has_edge}
-use Rattle.recorder.specs.Backed.{NoneTwice}
 use Rattle.graph_rules.specs.Pasts.{IsGraph, print_in}
 use Rattle.graph_rules.specs.Apart.{AreApartFrom, HasNoClash}
 
@@ -19,16 +18,12 @@ pub print_of_place : (s : SessionValue) → IsSession s → (i : ℕ) (r : Recor
 print_of_place s session i r lt is =
     ap (print_in (past_entry (Some s))) (key_of_place s i r lt is) ∙ ap (option_map (λ x. print_of x.value)) (entry_of_place s session i r lt is)
 
-none_twice : (ks : List Key) → AreOnce ks → NoneTwice (λ k. k) ks
-none_twice [] once = tt
-none_twice (k ∷ ks) once = (once.0, none_twice ks once.1)
-
 pub session_graph : (s : SessionValue) → IsSession s → IsGraph (entry_at s)
 session_graph s session = record {
   key = λ q r has. has_key s session q r has;
   kind = λ q r has. has_kind s session q r has;
   lower = λ q r has. has_lower s session q r has;
-  once = λ q r has. none_twice r.reads (has_once s session q r has);
+  once = λ q r has. has_once s session q r has;
   closed = λ q r e has c. has_edge s session q r has e c;
 }
 
@@ -47,7 +42,8 @@ past_graph (Some s) h = session_graph s h
 
 -- ---- entries
 
-item_at : {X : Type 0} (xs : List X) (i : ℕ) → i < length xs → (x : X) × (get_or xs i x ≡ x)
+-- the item that stands there
+pub item_at : {X : Type 0} (xs : List X) (i : ℕ) → i < length xs → (x : X) × (get_or xs i x ≡ x)
 item_at [] i lt = absurd (omega arith)
 item_at (x ∷ xs) zero lt = (x, refl)
 item_at (x ∷ xs) (suc i) lt = item_at xs i (omega arith)

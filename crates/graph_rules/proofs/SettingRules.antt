@@ -1,15 +1,15 @@
 -- What is taken over, and which kinds are not.
-use Rattle.std.proofs.Common.{◌≡◌, ◌↔◌, ◌⊎◌, inl, inr, Bool, true, false, List, [], ◌∷◌, Some, None, refl, sym, ap, ◌∙◌}
+use Rattle.std.proofs.Common.{◌≡◌, ◌↔◌, ◌⊎◌, inl, inr, Bool, true, false, List, [], ◌∷◌, cond, find, Some, None, refl, sym, ap, ◌∙◌}
 use Rattle.std.specs.Prelude.{◌==◌, if◌then◌else◌, filter, IsTrue}
 use Rattle.std.proofs.lemmas.Bool.{eqb-true}
+use Rattle.std.proofs.lemmas.Option.{none-some}
 use Rattle.profiles.specs.declared.profile.Profile.{Profile}
 use Rattle.profiles.specs.declared.profile.Profile.TheVariants.{One, Two}
 use Rattle.profiles.specs.Profiles.{same_profile}
 use Rattle.item_ids.specs.declared.kind.Kind.{Kind}
-use Rattle.item_ids.specs.declared.kind.Kind.TheVariants as kinds
 use Rattle.item_ids.specs.declared.key.Key.{Key}
-use Rattle.item_ids.specs.Kinds.{number_of, all_kinds}
-use Rattle.item_ids.specs.KindLaws.{number_apart}
+use Rattle.item_ids.specs.Kinds.{number_of, all_kinds, kind_with}
+use Rattle.item_ids.specs.KindLaws.{kind_again, number_apart}
 use Rattle.item_ids.specs.Keys.{kind_of}
 use Rattle.recorder.specs.Backed.{ReadLaws, Queries, AreLawful}
 use Rattle.recorder.proofs.Across.{between}
@@ -49,20 +49,18 @@ kept_some over q r no_crossing found = ap (λ b. if b then None else over.held q
 
 -- ---- which kinds cross
 
+-- a kind whose number is found is there
+has_found : (ks : List Kind) (k j : Kind) → find (λ x. number_of x == number_of k) ks ≡ Some j → has_kind ks k ≡ true
+has_found [] k j e = absurd (none-some j e)
+has_found (x ∷ ks) k j e =
+    (elim (number_of x == number_of k) as (λ b. cond b (Some x) (find (λ y. number_of y == number_of k) ks) ≡ Some j → (if b then true else has_kind ks k) ≡ true) [
+      | true ↦ λ _. refl
+      | false ↦ λ rest. has_found ks k j rest
+    ]) e
+
 has_all : (k : Kind) → has_kind all_kinds k ≡ true
-has_all kinds.Files = refl
-has_all kinds.Source = refl
-has_all kinds.Tree = refl
-has_all kinds.Index = refl
-has_all kinds.Header = refl
-has_all kinds.Method = refl
-has_all kinds.Sig = refl
-has_all kinds.Supers = refl
-has_all kinds.Members = refl
-has_all kinds.CheckClass = refl
-has_all kinds.CheckBody = refl
-has_all kinds.Diags = refl
-has_all kinds.Answer = refl
+unfolding kind_with
+has_all k = has_found all_kinds k k (kind_again k)
 
 -- one more kind in the list that is filtered
 filter_more : (by_profile : Kind → Bool) (x : Kind) (ks : List Kind) (k : Kind) → has_kind (filter by_profile ks) k ≡ (if by_profile k then has_kind ks k else false)
@@ -117,7 +115,8 @@ stays by_profile profile s k no_cross =
       | false ↦ λ _ e. inr e
     ]) refl (sym (crosses_is by_profile profile s k) ∙ no_cross)
 
-same_test : (b : Bool) (x y : Profile) → (IsTrue b ↔ (x ≡ y)) → b ≡ same_profile x y
+-- a test of whether two profiles are one
+pub same_test : (b : Bool) (x y : Profile) → (IsTrue b ↔ (x ≡ y)) → b ≡ same_profile x y
 same_test true One One h = refl
 same_test true Two Two h = refl
 same_test true One Two h = let e = h.0 refl in cc

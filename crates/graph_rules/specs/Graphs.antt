@@ -28,8 +28,8 @@ abbrev pub KeyBefore : Key → Key → Type 0
 KeyBefore a b = key_cmp a b ≡ Less
 
 -- in the order of their keys, none of which is there twice
-abbrev pub AreAscending : List Entry → Type 0
-AreAscending entries = IsAscendingBy (λ a b. KeyBefore a.key b.key) entries
+abbrev pub AreAscendingByKey : List Entry → Type 0
+AreAscendingByKey entries = IsAscendingBy (λ a b. KeyBefore a.key b.key) entries
 
 -- the entry says how its key is done in the state
 abbrev pub IsEntryOf : State → Entry → Type 0
@@ -37,6 +37,6 @@ IsEntryOf s r = s.at r.key ≡ Done r.value r.reads r.mark
 
 -- The entries are those of just the keys that are reached, in the order of keys.
 pub record AreClosed (p : Project) (s : State) (entries : List Entry) : Type 0 where
-  pub ascending : AreAscending entries
+  pub ascending : AreAscendingByKey entries
   pub each : (r : Entry) → Contains entries r → IsReached p s r.key × IsEntryOf s r
   pub all : (q : Key) → IsReached p s q → (r : Entry) × Contains entries r × (r.key ≡ q)

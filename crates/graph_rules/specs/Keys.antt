@@ -2,8 +2,8 @@
 use Rattle.std.specs.Prelude.{Bool, Option, Some, None}
 use Rattle.std.specs.Ordering.{is_eq}
 use Rattle.item_ids.specs.declared.key.Key.{Key}
-use Rattle.item_ids.specs.declared.key.Key.TheVariants.{Files, Source}
 use Rattle.item_ids.specs.Keys.{key_cmp}
+use Rattle.item_ids.specs.Inputs.{by_input}
 use Rattle.result_bytes.specs.declared.value.Value.{Value}
 use Rattle.result_bytes.specs.declared.value.Value.TheVariants as values
 use Rattle.mj_project.specs.Projects.{names_of}
@@ -16,6 +16,5 @@ same_key a b = is_eq (key_cmp a b)
 -- The value of a key that is an input: the names of the files, or the bytes of a file. Other keys
 -- are none.
 unfoldable pub input_of : Project → Key → Option Value
-input_of p Files = Some (values.Files (names_of p))
-input_of p (Source file) = Some (values.Source (bytes_at p file))
-input_of p _ = None
+input_of p key =
+    by_input (Some (values.Files (names_of p))) (λ file. Some (values.Source (bytes_at p file))) None key

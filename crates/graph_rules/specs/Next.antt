@@ -2,17 +2,18 @@
 use Rattle.std.specs.Prelude.{◌≡◌, ℕ, ◌<◌, List, Option, Some, None, Contains}
 use Rattle.item_ids.specs.declared.key.Key.{Key}
 use Rattle.item_ids.specs.declared.key.Key.TheVariants.{Files, Source}
+use Rattle.item_ids.specs.Inputs.{rank}
 use Rattle.result_bytes.specs.declared.value.Value.TheVariants as values
 use Rattle.fingerprint.specs.Prints.{print_of}
 use Rattle.mj_project.specs.Projects.{names_of, IsProject}
 use Rattle.recorder.specs.Projects.{Project, bytes_at}
-use Rattle.recorder.specs.Backed.{Meaning, ReadLists, ReadLaws, Queries, rank}
+use Rattle.recorder.specs.Backed.{Meaning, ReadLists, ReadLaws, Queries}
 use Rattle.sessions.specs.declared.mark.Mark.{Mark}
 use Rattle.sessions.specs.declared.mark.Mark.TheVariants.{Input, Green, Executed}
 use Rattle.sessions.specs.Sessions.{Entry, SessionValue, entry_at}
 use Rattle.graph_rules.specs.Pasts.{Past, IsGraph, print_in}
 use Rattle.graph_rules.specs.Settings.{Setting, kept, setting_of}
-use Rattle.graph_rules.specs.Graphs.{IsRoot, AreAscending}
+use Rattle.graph_rules.specs.Graphs.{IsRoot, AreAscendingByKey}
 
 -- The project whose files a session holds: their names, the bytes of each, and of no other file.
 pub record AreSources (past : Past) (p : Project) : Type 0 where
@@ -107,6 +108,6 @@ pub record IsNextEntry (mean : Meaning) (reads : ReadLists) (over : Setting) (p 
 -- the entries of the next session, which know no event
 pub record AreNext (mean : Meaning) (reads : ReadLists) (over : Setting) (p : Project)
     (entries : List Entry) : Type 0 where
-  pub ascending : AreAscending entries
+  pub ascending : AreAscendingByKey entries
   pub each : (r : Entry) → Contains entries r → IsNextEntry mean reads over p r
   pub all : (q : Key) → IsReadIn reads p q → (r : Entry) × Contains entries r × (r.key ≡ q)

@@ -1,8 +1,9 @@
 -- What a session holds, key by key.
 use Rattle.std.specs.Prelude.{◌≡◌, ℕ, List, Option, Some, option_map, Contains}
 use Rattle.item_ids.specs.declared.key.Key.{Key}
+use Rattle.item_ids.specs.KeyLists.{AreLower, NoneTwice}
+use Rattle.result_bytes.specs.Values.{IsOfKind}
 use Rattle.fingerprint.specs.Prints.{print_of}
-use Rattle.recorder.specs.Backed.{IsOfKind, AreLower, NoneTwice}
 use Rattle.sessions.specs.Sessions.{Entry}
 
 -- a session, key by key

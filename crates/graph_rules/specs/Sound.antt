@@ -3,13 +3,16 @@ use Rattle.std.specs.Prelude.{◌≡◌, ◌<◌, List, [], Some}
 use Rattle.std.specs.List.{AllByRecursion}
 use Rattle.item_ids.specs.declared.key.Key.{Key}
 use Rattle.item_ids.specs.Keys.{kind_of}
+use Rattle.item_ids.specs.Inputs.{rank, is_input}
+use Rattle.item_ids.specs.KeyLists.{AreLower, NoneTwice}
 use Rattle.result_bytes.specs.declared.value.Value.{Value}
+use Rattle.result_bytes.specs.Values.{IsOfKind}
 use Rattle.recorder.specs.Projects.{Project}
-use Rattle.recorder.specs.Backed.{Meaning, ReadLists, ReadValue, rank, keys, AreLower, NoneTwice, IsOfKind}
+use Rattle.recorder.specs.Backed.{Meaning, ReadLists, ReadValue, keys}
 use Rattle.recorder.specs.Runs.{IsOutcome}
 use Rattle.sessions.specs.declared.mark.Mark.{Mark}
 use Rattle.sessions.specs.declared.mark.Mark.TheVariants.{Input, Green, Executed}
-use Rattle.sessions.specs.Marks.{is_input, is_input_mark}
+use Rattle.sessions.specs.Marks.{is_input_mark}
 use Rattle.sessions.specs.Sessions.{Entry}
 use Rattle.graph_rules.specs.Keys.{input_of}
 use Rattle.graph_rules.specs.Settings.{Setting, kept}

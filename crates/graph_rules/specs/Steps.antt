@@ -2,10 +2,11 @@
 use Rattle.std.specs.Prelude.{◌≡◌, ℕ, ◌+◌, ◌<◌, Bool, true, false, List, [], ◌∷◌, Option, Some, None, option_map, if◌then◌else◌, bytes_eq}
 use Rattle.std.specs.List.{AllByRecursion}
 use Rattle.item_ids.specs.declared.key.Key.{Key}
+use Rattle.item_ids.specs.Inputs.{rank}
 use Rattle.result_bytes.specs.declared.value.Value.{Value}
 use Rattle.fingerprint.specs.Prints.{print_of}
 use Rattle.recorder.specs.Projects.{Project}
-use Rattle.recorder.specs.Backed.{ReadValue, rank, keys}
+use Rattle.recorder.specs.Backed.{ReadValue, keys}
 use Rattle.recorder.specs.Runs.{OutcomeValue}
 use Rattle.sessions.specs.declared.mark.Mark.{Mark}
 use Rattle.sessions.specs.declared.mark.Mark.TheVariants.{Input, Green, Executed}

@@ -1,9 +1,10 @@
 //! Laws of keys, of legal histories and of the sessions that they end in.
 ghost use Rattle.std.specs.Prelude.{◌≡◌, ◌↔◌, ◌<◌, List, Option, None, IfSome, true};
 ghost use Rattle.item_ids.specs.declared.key.Key.{Key};
+ghost use Rattle.item_ids.specs.Inputs.{rank};
 ghost use Rattle.mj_project.specs.Projects.{IsProject};
 ghost use Rattle.recorder.specs.Projects.{Project};
-ghost use Rattle.recorder.specs.Backed.{Meaning, ReadLists, RunnerLaws, rank};
+ghost use Rattle.recorder.specs.Backed.{Meaning, ReadLists, RunnerLaws};
 ghost use Rattle.sessions.specs.Sessions.{Entry, SessionValue, IsSession, entries, entry_at, past_entry};
 ghost use Rattle.graph_rules.specs.Keys.{same_key, input_of};
 ghost use Rattle.graph_rules.specs.Pasts.{IsGraph};

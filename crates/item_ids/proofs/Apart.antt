@@ -3,6 +3,7 @@ use Rattle.std.proofs.Common.{◌≡◌, ◌↔◌, IsTrue, true, refl, sym, ap,
 use Rattle.std.specs.Ordering.{nat_cmp, ordering_then, is_eq}
 use Rattle.std.specs.declared.cmp.Ordering.{Ordering}
 use Rattle.std.specs.declared.cmp.Ordering.TheVariants.{Less, Equal, Greater}
+use Rattle.std.specs.Cmp.{Equal-is}
 use Rattle.std.specs.Cmp.Lexicographic.{slice_cmp}
 use Rattle.std.proofs.lemmas.Cmp.{tied_itself}
 use Rattle.std.proofs.lemmas.Map.Lookups.{exact_unsigned, exact_bytes}
@@ -41,13 +42,8 @@ key_exact a b h =
 pub key_itself : (a b : Key) → a ≡ b → key_cmp a b ≡ Equal
 key_itself a b e = ap (key_cmp a) (sym e) ∙ tied_itself key_total a
 
-equal_is : (o : Ordering) → is_eq o ≡ true → o ≡ Equal
-equal_is Less h = cc
-equal_is Equal h = refl
-equal_is Greater h = cc
-
 pub test_same : (a b : Key) → is_eq (key_cmp a b) ≡ true → a ≡ b
-test_same a b h = key_exact a b (equal_is (key_cmp a b) h)
+test_same a b h = key_exact a b ((Equal-is (key_cmp a b)).0 h)
 
 pub test_itself : (a b : Key) → a ≡ b → is_eq (key_cmp a b) ≡ true
 test_itself a b e = ap is_eq (key_itself a b e)

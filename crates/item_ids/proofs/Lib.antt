@@ -1,3 +1,4 @@
 pub mod Apart
 pub mod Equal
+pub mod Lists
 pub mod Places

@@ -1,20 +1,14 @@
 -- Places of keys in a list that grows.
-use Rattle.std.proofs.Common.{◌≡◌, ◌≢◌, ℕ, zero, suc, ◌<◌, Bool, true, false, if◌then◌else◌, List, [], ◌∷◌, ◌++◌, length, length-append, Option, Some, None, is_some, sym, ap, ◌∙◌, subst, refl, arith}
-use Rattle.std.specs.List.{AllByRecursion, HoldsAt}
+use Rattle.std.proofs.Common.{◌≡◌, ◌≢◌, ℕ, zero, suc, ◌<◌, Bool, true, false, if◌then◌else◌, List, [], ◌∷◌, ◌++◌, length, length-append, Option, Some, None, is_some, sym, ap, ◌∙◌, subst, refl, arith, true≢false}
+use Rattle.std.specs.List.{HoldsAt}
 use Rattle.std.specs.Ordering.{is_eq}
 use Rattle.item_ids.specs.declared.key.Key.{Key}
 use Rattle.item_ids.specs.Keys.{key_cmp}
 use Rattle.item_ids.specs.Places.{IsMissing, IsPlace, ArePlaces, with_place}
 use Rattle.item_ids.proofs.Apart.{test_same, test_itself}
-
-differs : false ≡ true → ⊥
-differs e = cc
+use Rattle.item_ids.proofs.Lists.{all_push}
 
 module _ {A : Type 0} where
-  all_last : (P : A → Type 0) (xs : List A) (x : A) → AllByRecursion P xs → P x → AllByRecursion P (xs ++ x ∷ [])
-  all_last P [] x h p = (p, tt)
-  all_last P (y ∷ ys) x h p = (h.0, all_last P ys x h.1 p)
-
   -- what holds at a place holds there in a longer list
   at_more : (P : A → Type 0) (xs : List A) (x : A) (i : ℕ) → i < length xs → HoldsAt P xs i → HoldsAt P (xs ++ x ∷ []) i
   at_more P [] x i l h = absurd (omega (arith, l))
@@ -31,7 +25,7 @@ module _ {A : Type 0} where
 module _ {A : Type 0} (key : A → Key) (xs : List A) (x : A) (q : Key) where
   at_test : (b : Bool) → is_eq (key_cmp (key x) q) ≡ b → IsMissing key xs q → IsPlace key (xs ++ x ∷ []) q (if b then Some (length xs) else None)
   at_test true e u = (longer xs x, at_last (λ y. key y ≡ q) xs x (test_same (key x) q e))
-  at_test false e u = all_last (λ y. key y ≢ q) xs x u (λ same. differs (sym e ∙ test_itself (key x) q same))
+  at_test false e u = all_push (λ y. key y ≢ q) xs x u (λ same. true≢false (sym (test_itself (key x) q same) ∙ e))
 
   at_place : (o : Option ℕ) → IsPlace key xs q o → IsPlace key (xs ++ x ∷ []) q (with_place (λ _. o) (key x) (length xs) q)
   at_place None u = at_test (is_eq (key_cmp (key x) q)) refl u
@@ -57,7 +51,7 @@ place_kept place k i h q = go (place q) refl (is_eq (key_cmp k q)) refl
   where
     go : (o : Option ℕ) → place q ≡ o → (b : Bool) → is_eq (key_cmp k q) ≡ b → place q ≡ with_place place k i q
     go (Some j) e b t = e ∙ sym (ap (λ o. with_place (λ _. o) k i q) e)
-    go None e true t = absurd (differs (sym (ap is_some (ap place (test_same k q t) ∙ e)) ∙ h))
+    go None e true t = absurd (true≢false (sym h ∙ ap is_some (ap place (test_same k q t) ∙ e)))
     go None e false t = e ∙ sym (ap (λ b. if b then Some i else None) t) ∙ sym (ap (λ o. with_place (λ _. o) k i q) e)
 
 -- a key that had none has this one
@@ -65,7 +59,7 @@ pub place_added : (place new : Key → Option ℕ) (k : Key) (i : ℕ) → is_so
 place_added place new k i h w q = go (place q) refl (is_eq (key_cmp k q)) refl
   where
     go : (o : Option ℕ) → place q ≡ o → (b : Bool) → is_eq (key_cmp k q) ≡ b → new q ≡ with_place place k i q
-    go (Some j) e true t = absurd (differs (sym h ∙ ap is_some (ap place (test_same k q t) ∙ e)))
+    go (Some j) e true t = absurd (true≢false (sym (ap is_some (ap place (test_same k q t) ∙ e)) ∙ h))
     go (Some j) e false t = w q ∙ ap (λ b. if b then Some i else place q) t ∙ e ∙ sym (ap (λ o. with_place (λ _. o) k i q) e)
     go None e true t = w q ∙ ap (λ b. if b then Some i else place q) t ∙ sym (ap (λ b. if b then Some i else None) t) ∙ sym (ap (λ o. with_place (λ _. o) k i q) e)
     go None e false t = w q ∙ ap (λ b. if b then Some i else place q) t ∙ e ∙ sym (ap (λ b. if b then Some i else None) t) ∙ sym (ap (λ o. with_place (λ _. o) k i q) e)

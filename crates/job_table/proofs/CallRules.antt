@@ -15,7 +15,7 @@ use Rattle.graph_rules.specs.Steps.{Walk, Status, Claimed, Running, Done, State,
 use Rattle.job_table.specs.declared.fault.TableFault.{TableFault}
 use Rattle.job_table.specs.declared.fault.TableFault.TheVariants as fault
 use Rattle.key_states.specs.Nodes.{Node, status_in, unless_input, state_of_nodes, KeysStandOnce}
-use Rattle.job_table.specs.Kept.{IsKept}
+use Rattle.job_table.specs.Kept.{StandsByHistory}
 use Rattle.job_table.specs.Tables.{TableValue, past_of, state_of, IsStep, adds}
 use Rattle.job_table.specs.Walks.{IsWhyNot}
 use Rattle.job_table.specs.Calls.{IsClaimed, IsRunning, walk_in, MarkGives, BeginGives, FinishGives, IsFirstStale}
@@ -27,7 +27,7 @@ standing_in : (o : Option Value) (x y : Status) → IsNotDone y → unless_input
 standing_in (Some v) x y other is = absurd (subst (λ (z : Status). IsNotDone z) (sym is) other)
 standing_in None x y other is = is
 
-pub not_standing : (over : Setting) (p : Project) (ns : List Node) (b : Bool) (h : List Event) → IsKept over p ns b h → (q : Key) (y : Status) → IsNotDone y → (status_in ns q ≡ y → ⊥) → (state_after over p h).at q ≡ y → ⊥
+pub not_standing : (over : Setting) (p : Project) (ns : List Node) (b : Bool) (h : List Event) → StandsByHistory over p ns b h → (q : Key) (y : Status) → IsNotDone y → (status_in ns q ≡ y → ⊥) → (state_after over p h).at q ≡ y → ⊥
 not_standing over p ns b h kept q y other isnt is = isnt (standing_in (input_of p q) (status_in ns q) y other (kept.status q ∙ is))
 
 -- ---- the walk over the edges of what is taken over
@@ -40,7 +40,7 @@ walk_some over s q r x found is = ap (option_map (λ (y : Entry). walk over.held
 
 -- ---- calls, where the table is kept so
 
-module _ (over : Setting) (p : Project) (ns : List Node) (b : Bool) (h : List Event) (kept : IsKept over p ns b h) where
+module _ (over : Setting) (p : Project) (ns : List Node) (b : Bool) (h : List Event) (kept : StandsByHistory over p ns b h) where
   pub mark_may : (q : Key) (w : ℕ) (r : Entry) → taken over q ≡ Some r → b ≡ false → status_in ns q ≡ Claimed w → AllUnchanged ≡ walk over.held (state_of_nodes p ns false) r.reads
       → MayStep over (state_after over p h) (MarkGreen w q)
   mark_may q w r found nf stands all = (
@@ -52,7 +52,7 @@ module _ (over : Setting) (p : Project) (ns : List Node) (b : Bool) (h : List Ev
   pub mark_kept : (ms : List Node) (q : Key) (w : ℕ) (r : Entry) (x : Status)
       → taken over q ≡ Some r → b ≡ false → status_in ns q ≡ Claimed w → AllUnchanged ≡ walk over.held (state_of_nodes p ns false) r.reads
       → x ≡ Done r.value r.reads Green → (KeysStandOnce ns → KeysStandOnce ms) → ((k : Key) → status_in ms k ≡ (if same_key q k then x else status_in ns k))
-      → IsKept over p ms b (h ++ MarkGreen w q ∷ [])
+      → StandsByHistory over p ms b (h ++ MarkGreen w q ∷ [])
   mark_kept ms q w r x found nf stands all xis apart put =
       kept_put over p ns b h kept ms (MarkGreen w q) q x (mark_may q w r found nf stands all)
       (λ st. ap (λ (y : Status). with_status st q y) (ap green found ∙ sym xis))
@@ -64,7 +64,7 @@ module _ (over : Setting) (p : Project) (ns : List Node) (b : Bool) (h : List Ev
 
   pub begin_kept : (ms : List Node) (q : Key) (w : ℕ) → b ≡ false → status_in ns q ≡ Claimed w → MayRun (past_walk over (state_of_nodes p ns false) q)
       → (KeysStandOnce ns → KeysStandOnce ms) → ((k : Key) → status_in ms k ≡ (if same_key q k then Running w else status_in ns k))
-      → IsKept over p ms b (h ++ Begin w q ∷ [])
+      → StandsByHistory over p ms b (h ++ Begin w q ∷ [])
   begin_kept ms q w nf stands may apart put =
       kept_put over p ns b h kept ms (Begin w q) q (Running w) (begin_may q w nf stands may) (λ s. refl)
       (is_standing over p ns b h kept q (Claimed w) stands (λ e. cc) tt).0 apart put
@@ -75,7 +75,7 @@ module _ (over : Setting) (p : Project) (ns : List Node) (b : Bool) (h : List Ev
 
   pub finish_kept : (ms : List Node) (o : OutcomeValue) (w : ℕ) (x : Status) → b ≡ false → status_in ns o.key ≡ Running w → o.profile ≡ over.profile → AreHeld (state_of_nodes p ns false) o.told
       → x ≡ Done o.value (keys o.told) Executed → (KeysStandOnce ns → KeysStandOnce ms) → ((k : Key) → status_in ms k ≡ (if same_key o.key k then x else status_in ns k))
-      → IsKept over p ms b (h ++ Finish w o ∷ [])
+      → StandsByHistory over p ms b (h ++ Finish w o ∷ [])
   finish_kept ms o w x nf stands own all xis apart put =
       kept_put over p ns b h kept ms (Finish w o) o.key x (finish_may o w nf stands own all)
       (λ st. ap (λ (y : Status). with_status st o.key y) (sym xis))
@@ -88,7 +88,7 @@ stale_same s t e (r ∷ rs) (suc i) h = (subst (λ (x : Status). IsDoneWith r.va
 
 -- ---- what calls say of a table t, which is v
 
-module _ (v t : TableValue) (te : v ≡ t) (ns : List Node) (b : Bool) (kept : IsKept (past_of v) v.project ns b v.history) where
+module _ (v t : TableValue) (te : v ≡ t) (ns : List Node) (b : Bool) (kept : StandsByHistory (past_of v) v.project ns b v.history) where
   claimed : (q : Key) (w : ℕ) → b ≡ false → status_in ns q ≡ Claimed w → IsClaimed v w q
   claimed q w nf stands = (sym kept.failed_is ∙ nf, (is_standing (past_of v) v.project ns b v.history kept q (Claimed w) stands (λ e. cc) tt).1)
 

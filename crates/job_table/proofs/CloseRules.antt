@@ -1,5 +1,5 @@
 -- What close says of the table.
-use Rattle.std.proofs.Common.{◌≡◌, inl, inr, List, [], ◌∷◌, refl, sym, ◌∙◌, subst, Bool, true, false, Option, Some, None}
+use Rattle.std.proofs.Common.{◌≡◌, List, [], ◌∷◌, sym, ◌∙◌, subst, Bool, true, false, Option, Some, None}
 use Rattle.std.specs.Prelude.{if◌then◌else◌, Ok, Err}
 use Rattle.std.specs.List.{AllByRecursion}
 use Rattle.item_ids.specs.declared.key.Key.{Key}
@@ -16,11 +16,10 @@ use Rattle.graph_rules.specs.Steps.{Status, Unknown, Claimed, Running, Done, Sta
 use Rattle.graph_rules.specs.Sound.{AreBacked, IsInOrderAt, IsInOrder}
 use Rattle.graph_rules.specs.Graphs.{IsReached, edge}
 use Rattle.graph_rules.specs.Graphs.IsReached.{root as starts}
-use Rattle.graph_rules.proofs.KeyRules.{same_is, same_refl}
 use Rattle.graph_rules.proofs.Keeping.{sound_history, in_order}
 use Rattle.job_table.specs.declared.fault.CloseFault.TheVariants as fault
-use Rattle.key_states.specs.Nodes.{Node, IsInputIn, status_of, status_in, status_at, unless_input, state_of_nodes, has_key, KeysStandOnce}
-use Rattle.job_table.specs.Kept.{IsKept}
+use Rattle.key_states.specs.Nodes.{Node, status_of, status_in, status_at, unless_input, state_of_nodes}
+use Rattle.job_table.specs.Kept.{StandsByHistory}
 use Rattle.job_table.specs.Tables.{TableValue, past_of, state_of}
 use Rattle.key_states.specs.Closing.{IsQuiet, IsClosing}
 use Rattle.job_table.specs.Closes.{AreQuiet, IsAtWork, CloseGives}
@@ -85,12 +84,12 @@ done_of v (Done u es m) d = tt
 
 -- the state that the nodes stand for is in order
 pub held_in_order : (mean : Meaning) (reads : ReadLists) (over : Setting) (p : Project) (ns : List Node) (b c : Bool) (h : List Event)
-    → IsKept over p ns b h → AreBacked mean reads h → IsGraph over.held → IsInOrder (state_of_nodes p ns c)
+    → StandsByHistory over p ns b h → AreBacked mean reads h → IsGraph over.held → IsInOrder (state_of_nodes p ns c)
 held_in_order mean reads over p ns b c h kept backed graph =
     order_same (state_after over p h) (state_of_nodes p ns c) (λ k. sym (kept.status k))
     (in_order mean reads over p graph (state_after over p h) (sound_history mean reads over p h kept.legal backed))
 
-module _ (v t : TableValue) (is : v ≡ t) (ns : List Node) (b : Bool) (kept : IsKept (past_of v) v.project ns b v.history) (nf : b ≡ false) where
+module _ (v t : TableValue) (is : v ≡ t) (ns : List Node) (b : Bool) (kept : StandsByHistory (past_of v) v.project ns b v.history) (nf : b ≡ false) where
   quiet : AllQuiet ns → AreQuiet (state_of v)
   quiet all q = subst IsQuiet (kept.status q) (quiet_out (input_of v.project q) (status_in ns q) (quiet_at ns q all))
 

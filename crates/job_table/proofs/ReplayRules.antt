@@ -1,5 +1,5 @@
 -- Events in turn, and what calls say of them.
-use Rattle.std.proofs.Common.{◌≡◌, ◌<◌, ℕ, List, [], ◌∷◌, ◌++◌, take, drop, map, length, get_or, suc, zero, ap, sym, ◌∙◌, ◌+◌, subst, refl, Bool, true, false, arith}
+use Rattle.std.proofs.Common.{◌≡◌, ◌<◌, ℕ, List, [], ◌∷◌, ◌++◌, take, drop, map, length, get_or, suc, zero, ap, sym, ◌∙◌, ◌+◌, subst, refl, arith, true≢false}
 use Rattle.std.proofs.lemmas.List.{take_more}
 use Rattle.std.specs.Prelude.{Result, Ok, Err, Option, Some, None}
 use Rattle.std.specs.declared.alloc.Global.{Global}
@@ -72,15 +72,12 @@ stale_not s [] i h a = h
 stale_not s (r ∷ rs) zero h a = h a.0
 stale_not s (r ∷ rs) (suc i) h a = stale_not s rs i h.1 a.1
 
-not_both : (b : Bool) → b ≡ true → b ≡ false → ⊥
-not_both b t f = cc
-
 -- what an answer of ask says of its event
 pub ask_step : (t u : TableValue) (w : ℕ) (q : Key) (r : Result Asked TableFault) → AskGives t w q r u → StepGives t (Claim w q) (step_of_ask r) u
 ask_step t u w q (Ok asked.Yours) h = h
 ask_step t u w q (Ok (asked.Done v)) h = ((λ m. subst (λ (x : Status). IsDoneWith (arc_value v) x) m.1 h.1), h.2)
 ask_step t u w q (Ok asked.Busy) h = ((λ m. h.2 m.1), h.3)
-ask_step t u w q (Ok asked.Stopped) h = ((λ m. not_both _ h.0 m.0), h.1)
+ask_step t u w q (Ok asked.Stopped) h = ((λ m. true≢false (sym h.0 ∙ m.0)), h.1)
 ask_step t u w q (Err fault.OutOfRank) h = ((λ m. h.1.not_above (m.2 h.1.key h.1.held)), h.2)
 ask_step t u w q (Err fault.OutOfMemory) h = h.2
 ask_step t u w q (Err fault.NotYours) h = absurd h
@@ -105,7 +102,7 @@ changed_not o i n a = cc
 -- what an answer of mark says of its event
 pub mark_step : (t u : TableValue) (w : ℕ) (q : Key) (r : Result (Arc Value Global) TableFault) → MarkGives t w q r u → StepGives t (MarkGreen w q) (step_of_mark r) u
 mark_step t u w q (Ok v) h = (h.0, h.1)
-mark_step t u w q (Err fault.Failed) h = ((λ m. not_both _ h.0 m.0), h.1)
+mark_step t u w q (Err fault.Failed) h = ((λ m. true≢false (sym h.0 ∙ m.0)), h.1)
 mark_step t u w q (Err fault.NotYours) h = ((λ m. h.1 m.1), h.2)
 mark_step t u w q (Err fault.NotInPast) h = ((λ m. none_not _ (walk_none (past_of t) (state_of t) q (kept_none (past_of t) q h.1)) m.2), h.2)
 mark_step t u w q (Err fault.AcrossProfiles) h = ((λ m. none_not _ (walk_none (past_of t) (state_of t) q (kept_across (past_of t) q h.2)) m.2), h.3)
@@ -120,7 +117,7 @@ mark_step t u w q (Err fault.OtherProfile) h = absurd h
 -- what an answer of begin_run says of its event
 pub begin_step : (t u : TableValue) (w : ℕ) (q : Key) (r : Result (Unit {0}) TableFault) → BeginGives t w q r u → StepGives t (Begin w q) (step_of_call r) u
 begin_step t u w q (Ok x) h = h
-begin_step t u w q (Err fault.Failed) h = ((λ m. not_both _ h.0 m.0), h.1)
+begin_step t u w q (Err fault.Failed) h = ((λ m. true≢false (sym h.0 ∙ m.0)), h.1)
 begin_step t u w q (Err fault.NotYours) h = ((λ m. h.1 m.1), h.2)
 begin_step t u w q (Err (fault.EdgeOpen i)) h = ((λ m. subst MayRun h.1 m.2), h.2)
 begin_step t u w q (Err fault.NothingChanged) h = ((λ m. subst MayRun h.1 m.2), h.2)
@@ -135,7 +132,7 @@ begin_step t u w q (Err fault.OtherProfile) h = absurd h
 -- what an answer of finish says of its event
 pub finish_step : (t u : TableValue) (w : ℕ) (o : OutcomeValue) (r : Result (Unit {0}) TableFault) → FinishGives t w o r u → StepGives t (Finish w o) (step_of_call r) u
 finish_step t u w o (Ok x) h = h
-finish_step t u w o (Err fault.Failed) h = ((λ m. not_both _ h.0 m.0), h.1)
+finish_step t u w o (Err fault.Failed) h = ((λ m. true≢false (sym h.0 ∙ m.0)), h.1)
 finish_step t u w o (Err fault.NotYours) h = ((λ m. h.1 m.1), h.2)
 finish_step t u w o (Err fault.OtherProfile) h = ((λ m. h.1 m.3), h.2)
 finish_step t u w o (Err (fault.StaleRead i)) h = ((λ m. stale_not (state_of t) o.told i h.2 m.2), h.3)
@@ -150,7 +147,7 @@ finish_step t u w o (Err fault.AcrossProfiles) h = absurd h
 -- what an answer of fail says of its event
 pub fail_step : (t u : TableValue) (w : ℕ) (r : Result (Unit {0}) TableFault) → FailGives t w r u → StepGives t (Fail w) (step_of_call r) u
 fail_step t u w (Ok x) h = h
-fail_step t u w (Err fault.Failed) h = ((λ m. not_both _ h.0 m), h.1)
+fail_step t u w (Err fault.Failed) h = ((λ m. true≢false (sym h.0 ∙ m)), h.1)
 fail_step t u w (Err fault.NotYours) h = absurd h
 fail_step t u w (Err fault.OutOfRank) h = absurd h
 fail_step t u w (Err fault.NotInPast) h = absurd h

@@ -3,14 +3,8 @@ use Rattle.std.proofs.Common.{◌≡◌, ◌↔◌, ℕ, suc, ◌+◌, ◌<◌, 
 use Rattle.std.proofs.Math.Seq.{drop-cons}
 use Rattle.result_bytes.specs.declared.value.Value.{Value}
 use Rattle.recorder.specs.Backed.{ReadValue}
-use Rattle.graph_rules.specs.Steps.{Status, Unknown, Claimed, Running, Done, State, IsDoneWith, IsNotDone, AreHeld}
+use Rattle.graph_rules.specs.Steps.{Status, Unknown, Claimed, Running, Done, State, IsDoneWith, AreHeld}
 use Rattle.job_table.specs.Calls.{IsFirstStale}
-
-pub not_both : (v : Value) (x : Status) → IsNotDone x → IsDoneWith v x → ⊥
-not_both v Unknown n d = d
-not_both v (Claimed w) n d = d
-not_both v (Running w) n d = d
-not_both v (Done u es m) n d = n
 
 -- a key that is done with one value is done with no other
 pub done_with : (a v : Value) (x : Status) → IsDoneWith a x → (a ≡ v) ↔ IsDoneWith v x

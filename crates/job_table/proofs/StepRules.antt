@@ -3,10 +3,11 @@ use Rattle.std.proofs.Common.{◌≡◌, inl, inr, ℕ, List, [], ◌∷◌, ◌
 use Rattle.std.specs.Prelude.{if◌then◌else◌}
 use Rattle.std.proofs.lemmas.Option.{none-some}
 use Rattle.item_ids.specs.declared.key.Key.{Key}
+use Rattle.item_ids.specs.Inputs.{rank}
 use Rattle.result_bytes.specs.declared.value.Value.{Value}
 use Rattle.mj_project.specs.Projects.{IsProject}
 use Rattle.recorder.specs.Projects.{Project}
-use Rattle.recorder.specs.Backed.{Meaning, ReadLists, ReadValue, rank}
+use Rattle.recorder.specs.Backed.{Meaning, ReadLists, ReadValue}
 use Rattle.sessions.specs.Sessions.{Entry}
 use Rattle.graph_rules.specs.Keys.{same_key, input_of}
 use Rattle.graph_rules.specs.Pasts.{Past, print_in}
@@ -16,7 +17,7 @@ use Rattle.graph_rules.specs.Sound.{IsBacked, AreBacked}
 use Rattle.graph_rules.proofs.KeyRules.{same_refl, same_is}
 use Rattle.graph_rules.proofs.Orders.{after_all_append, steps_append}
 use Rattle.key_states.specs.Nodes.{Node, IsInputIn, AreOpened, status_in, status_at, unless_input, state_of_nodes, KeysStandOnce, AllAbove}
-use Rattle.job_table.specs.Kept.{IsKept}
+use Rattle.job_table.specs.Kept.{StandsByHistory}
 use Rattle.key_states.proofs.NodeRules.{above_held, own_in}
 
 -- ---- opening
@@ -25,7 +26,7 @@ opened_status : (o : Option Value) (x : Status) → ((v : Value) → o ≡ Some 
 opened_status (Some v) x inner others = refl
 opened_status None x inner others = others refl
 
-pub kept_opening : (over : Setting) (p : Project) (ns : List Node) → IsProject p → KeysStandOnce ns → AreOpened p ns → IsKept over p ns false []
+pub kept_opening : (over : Setting) (p : Project) (ns : List Node) → IsProject p → KeysStandOnce ns → AreOpened p ns → StandsByHistory over p ns false []
 kept_opening over p ns project apart opened = record {
   project = project;
   legal = tt;
@@ -66,9 +67,9 @@ put_inner p x y q k v none some unknown =
 
 -- a table in which one key stands otherwise, and its event
 pub kept_step : (over : Setting) (p : Project) (ns ms : List Node) (b : Bool) (h : List Event) (e : Event) (q : Key) (x : Status)
-    → IsKept over p ns b h → MayStep over (state_after over p h) e → ((s : State) → after over s e ≡ with_status s q x) → input_of p q ≡ None → KeysStandOnce ms
+    → StandsByHistory over p ns b h → MayStep over (state_after over p h) e → ((s : State) → after over s e ≡ with_status s q x) → input_of p q ≡ None → KeysStandOnce ms
     → ((k : Key) → status_in ms k ≡ (if same_key q k then x else status_in ns k))
-    → IsKept over p ms b (h ++ e ∷ [])
+    → StandsByHistory over p ms b (h ++ e ∷ [])
 kept_step over p ns ms b h e q x kept may is none apart put =
     let last : state_after over p (h ++ e ∷ []) ≡ with_status (state_after over p h) q x = replayed_last over p h e ∙ is (state_after over p h) in
     record {
@@ -85,7 +86,7 @@ kept_step over p ns ms b h e q x kept may is none apart put =
     }
 
 -- a table in which a worker failed
-pub kept_fail : (over : Setting) (p : Project) (ns : List Node) (h : List Event) (w : ℕ) → IsKept over p ns false h → IsKept over p ns true (h ++ Fail w ∷ [])
+pub kept_fail : (over : Setting) (p : Project) (ns : List Node) (h : List Event) (w : ℕ) → StandsByHistory over p ns false h → StandsByHistory over p ns true (h ++ Fail w ∷ [])
 kept_fail over p ns h w kept =
     let last : state_after over p (h ++ Fail w ∷ []) ≡ after over (state_after over p h) (Fail w) = replayed_last over p h (Fail w) in
     record {
@@ -145,7 +146,7 @@ unknown_none : (o : Option Value) (x : Status) → unless_input o x ≡ Unknown 
 unknown_none (Some v) x e = absurd cc
 unknown_none None x e = refl
 
-module _ (over : Setting) (p : Project) (ns : List Node) (b : Bool) (h : List Event) (kept : IsKept over p ns b h) where
+module _ (over : Setting) (p : Project) (ns : List Node) (b : Bool) (h : List Event) (kept : StandsByHistory over p ns b h) where
   pub is_not_done : (q : Key) → IsNotDone (status_at p ns q) → IsNotDone ((state_after over p h).at q)
   is_not_done q nd = subst (λ (x : Status). IsNotDone x) (kept.status q) nd
 
@@ -171,7 +172,7 @@ module _ (over : Setting) (p : Project) (ns : List Node) (b : Bool) (h : List Ev
   may_claim w q nf nd u all = (sym kept.failed_is ∙ nf, is_unknown q nd u, is_below w q all)
 
   pub kept_claim : (ms : List Node) (w : ℕ) (q : Key) → b ≡ false → IsNotDone (status_at p ns q) → status_in ns q ≡ Unknown → AllAbove w (rank q) ns
-      → KeysStandOnce ms → ((k : Key) → status_in ms k ≡ (if same_key q k then Claimed w else status_in ns k)) → IsKept over p ms b (h ++ Claim w q ∷ [])
+      → KeysStandOnce ms → ((k : Key) → status_in ms k ≡ (if same_key q k then Claimed w else status_in ns k)) → StandsByHistory over p ms b (h ++ Claim w q ∷ [])
   kept_claim ms w q nf nd u all apart put =
       let may = may_claim w q nf nd u all in
       kept_step over p ns ms b h (Claim w q) q (Claimed w) kept may (λ s. refl)
@@ -194,7 +195,7 @@ module _ (over : Setting) (p : Project) (ns : List Node) (b : Bool) (h : List Ev
 
   -- a key that stands otherwise
   pub kept_put : (ms : List Node) (e : Event) (q : Key) (x : Status) → MayStep over (state_after over p h) e → ((s : State) → after over s e ≡ with_status s q x)
-      → input_of p q ≡ None → (KeysStandOnce ns → KeysStandOnce ms) → ((k : Key) → status_in ms k ≡ (if same_key q k then x else status_in ns k)) → IsKept over p ms b (h ++ e ∷ [])
+      → input_of p q ≡ None → (KeysStandOnce ns → KeysStandOnce ms) → ((k : Key) → status_in ms k ≡ (if same_key q k then x else status_in ns k)) → StandsByHistory over p ms b (h ++ e ∷ [])
   kept_put ms e q x may is none apart put = kept_step over p ns ms b h e q x kept may is none (apart kept.apart) put
 
 -- a state just after a key was written tells it

@@ -1,6 +1,5 @@
 -- What each call answers, decided by the state before it, and what becomes of the table.
-use Rattle.std.specs.Prelude.{◌≡◌, ◌≢◌, ℕ, Bool, true, false, Result, Ok, Err, Option, Some, None, List, [], ◌∷◌}
-use Rattle.std.proofs.Common.{zero, suc}
+use Rattle.std.specs.Prelude.{◌≡◌, ◌≢◌, ℕ, zero, suc, Bool, true, false, Result, Ok, Err, Option, Some, None, List, [], ◌∷◌}
 use Rattle.std.specs.declared.alloc.Global.{Global}
 use Rattle.std.specs.declared.sync.Arc.{Arc}
 use Rattle.std.specs.Arc.{arc_value}
@@ -91,7 +90,8 @@ MarkGives t w q (Err (fault.EdgeChanged i)) u =
 MarkGives t w q (Err fault.OutOfMemory) u = IsStep t (MarkGreen w q) × (u ≡ t)
 MarkGives t w q (Err _) u = ⊥
 
--- begin_run
+-- begin_run: the key runs, unless its record in the previous session can be marked, or an edge of it isn't done
+-- yet; memory is taken for the event
 abbrev pub BeginGives : TableValue → ℕ → Key → Result (Unit {0}) TableFault → TableValue → Type 0
 BeginGives t w q (Ok _) u = IsStep t (Begin w q) × (u ≡ adds t (Begin w q))
 BeginGives t w q (Err fault.Failed) u = ((state_of t).failed ≡ true) × (u ≡ t)
@@ -110,7 +110,8 @@ IsFirstStale s [] i = ⊥
 IsFirstStale s (r ∷ rs) zero = ¬ IsDoneWith r.value (s.at r.key)
 IsFirstStale s (r ∷ rs) (suc i) = IsDoneWith r.value (s.at r.key) × IsFirstStale s rs i
 
--- finish
+-- finish: the key is done with the outcome, unless that is of another profile, or another value was read than the
+-- key has; memory is taken for the event and the edges
 abbrev pub FinishGives : TableValue → ℕ → OutcomeValue → Result (Unit {0}) TableFault → TableValue
     → Type 0
 FinishGives t w o (Ok _) u = IsStep t (Finish w o) × (u ≡ adds t (Finish w o))

@@ -6,7 +6,7 @@ use Rattle.mj_project.specs.Projects.{IsProject}
 use Rattle.recorder.specs.Projects.{Project}
 use Rattle.graph_rules.specs.Settings.{Setting}
 use Rattle.graph_rules.specs.Steps.{Event, Claim, MarkGreen, Begin, Finish, Fail, Legal, state_after}
-use Rattle.key_states.specs.Nodes.{Node, status_at, AreInputs, KeysStandOnce}
+use Rattle.key_states.specs.Nodes.{Node, status_at, AreDoneInputs, KeysStandOnce}
 use Rattle.job_table.specs.declared.event.Event.{Event as StoredEvent}
 use Rattle.job_table.specs.declared.event.Event.TheVariants as stored
 
@@ -20,11 +20,11 @@ event_of (stored.Fail w) = Fail w
 
 -- The history is legal, and inputs and nodes stand as it leads to. No key has two nodes, and inputs that
 -- have one are done.
-pub record IsKept (over : Setting) (p : Project) (ns : List Node) (failed : Bool)
+pub record StandsByHistory (over : Setting) (p : Project) (ns : List Node) (failed : Bool)
     (history : List Event) : Type 0 where
   pub project : IsProject p
   pub legal : Legal over p history
   pub status : (q : Key) → status_at p ns q ≡ (state_after over p history).at q
   pub failed_is : failed ≡ (state_after over p history).failed
   pub apart : KeysStandOnce ns
-  pub inner : AreInputs p ns
+  pub inner : AreDoneInputs p ns

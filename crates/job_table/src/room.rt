@@ -8,7 +8,7 @@ ghost use Rattle.sessions.specs.Sessions.{key_at, session_in};
 ghost use Rattle.sessions.specs.declared.mark.Mark.TheVariants.{Green};
 ghost use Rattle.graph_rules.specs.Keys.{same_key};
 ghost use Rattle.graph_rules.specs.Steps.{Unknown, Claimed, Done, Claim, MarkGreen, Begin};
-ghost use Rattle.key_states.specs.Nodes.{status_in, AreOpened, KeysStandOnce, IsFirst};
+ghost use Rattle.key_states.specs.Nodes.{status_in, AreOpened, KeysStandOnce, IsFirstNode};
 ghost use Rattle.job_table.specs.Kept.{event_of};
 
 use crate::event::Event;
@@ -189,7 +189,7 @@ pub fn put_mark<R: Runner>(
 ) -> Arc<Sealed>
     requires place { at < length nodes.old }
     requires room { vec_len history.old + 1 < vec_capacity history.old }
-    ensures done { (q k : KeyValue) → IsFirst nodes.old q at → status_in nodes.new k
+    ensures done { (q k : KeyValue) → IsFirstNode nodes.old q at → status_in nodes.new k
         ≡ (if same_key q k then Done (arc_value parts.sealed) parts.edges Green
         else status_in nodes.old k) }
     ensures apart { KeysStandOnce nodes.old → KeysStandOnce nodes.new }

@@ -17,13 +17,13 @@ use fingerprint::Sealed;
 use graph_rules::{histories_are_orderly, histories_are_sound, sound_is_in_order};
 use item_ids::Key;
 use key_states::{
-    Known, NodeMap, Standing, check_past, find_claimed, find_running, known_of, result_of,
+    KeyState, NodeMap, Standing, check_past, find_claimed, find_running, key_state, result_of,
     session_of,
 };
 use mj_project::Project;
 use project_inputs::Inputs;
 use recorder::{Outcome, Runner};
-use sessions::{Finder, Mark, Session, Terms};
+use sessions::{Finder, Mark, Session, Terms, share};
 use std::alloc::{AllocError, Global};
 use std::marker::Model;
 use std::sync::Arc;
@@ -66,7 +66,7 @@ impl<R: Runner> Model for Table<R> {
     ghost use Rattle.graph_rules.specs.Sound.{AreBacked};
     ghost use Rattle.key_states.specs.Closing.{IsFull};
     ghost use Rattle.job_table.specs.Tables.{TableValue};
-    ghost use Rattle.job_table.specs.Kept.{event_of, IsKept};
+    ghost use Rattle.job_table.specs.Kept.{event_of, StandsByHistory};
 
     ghost Value = { TableValue };
 
@@ -81,7 +81,7 @@ impl<R: Runner> Model for Table<R> {
           event_of t.history.items;
     } };
 
-    ghost invariant = { λ t. IsKept
+    ghost invariant = { λ t. StandsByHistory
         (setting_of R.queries.by_profile t.terms.profile (session_in t.past)) t.inputs t.nodes
         t.failed (map event_of t.history.items)
         × AreBacked (R.queries.mean t.terms.profile) (R.queries.reads t.terms.profile)
@@ -183,16 +183,16 @@ impl<R: Runner> Table<R> {
         if self.failed {
             return Ok(Asked::Stopped);
         }
-        match known_of(&self.inputs, &self.nodes, key) {
-            Known::Done(sealed) => {
+        match key_state(&self.inputs, &self.nodes, key) {
+            KeyState::Done(sealed) => {
                 return match Arc::try_clone(sealed) {
                     Ok(sealed) => Ok(Asked::Done(sealed)),
                     Err(_) => Err(TableFault::OutOfMemory),
                 };
             }
-            Known::Pending if self.nodes.is_below(w, key) => return Ok(Asked::Busy),
-            Known::Pending => return Err(TableFault::OutOfRank),
-            Known::Unknown => {}
+            KeyState::Pending if self.nodes.is_below(w, key) => return Ok(Asked::Busy),
+            KeyState::Pending => return Err(TableFault::OutOfRank),
+            KeyState::Unknown => {}
         }
         if !self.nodes.is_below(w, key) {
             return Err(TableFault::OutOfRank);
@@ -362,10 +362,7 @@ impl<R: Runner> Table<R> {
     pub fn past(&self) -> Result<Option<Arc<Session>>, AllocError>
         ensures { IfOk result (λ past. session_in past ≡ self.now.past) }
     {
-        match &self.past {
-            Some(past) => Ok(Some(Arc::try_clone(past)?)),
-            None => Ok(None),
-        }
+        share(&self.past)
     }
 
     /// All events, from the first.

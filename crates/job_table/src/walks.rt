@@ -4,7 +4,7 @@ ghost use Rattle.sessions.specs.Sessions.{AreInside, key_at, past_entry, session
 ghost use Rattle.graph_rules.specs.Settings.{has_kind, crossing_kinds, setting_of};
 ghost use Rattle.graph_rules.specs.Pasts.{print_in};
 ghost use Rattle.graph_rules.specs.Steps.{edge_at, walk, past_walk, AllUnchanged};
-ghost use Rattle.key_states.specs.Nodes.{status_at, state_of_nodes, AreInputs};
+ghost use Rattle.key_states.specs.Nodes.{status_at, state_of_nodes, AreDoneInputs};
 ghost use Rattle.job_table.specs.Walks.{edge_state_of, walk_of, IsWhyNot};
 
 use crate::fault::TableFault;
@@ -34,7 +34,7 @@ pub enum WalkEnd {
 
 /// How the previous edge stands that leads to a record.
 fn past_edge(inputs: &Inputs, nodes: &NodeMap, past: &Session, at: usize) -> Edge
-    requires inputs { AreInputs inputs.now nodes.now }
+    requires inputs { AreDoneInputs inputs.now nodes.now }
     requires place { at < length past.now.records }
     ensures { edge_state_of result ≡ edge_at
         (print_in (past_entry (Some past.now)) (key_at past.now.records at))
@@ -53,7 +53,7 @@ fn past_edge(inputs: &Inputs, nodes: &NodeMap, past: &Session, at: usize) -> Edg
 
 /// How the walk over previous edges ends.
 pub fn walk_edges(inputs: &Inputs, nodes: &NodeMap, past: &Session, edges: &[usize]) -> WalkEnd
-    requires inputs { AreInputs inputs.now nodes.now }
+    requires inputs { AreDoneInputs inputs.now nodes.now }
     requires inside { AreInside past.now.records edges.now }
     ensures { walk_of result ≡ walk (past_entry (Some past.now))
         (state_of_nodes inputs.now nodes.now false)
@@ -87,7 +87,7 @@ fn walk_past<R: Runner>(
     finder: &mut Finder,
     key: &Key,
 ) -> Option<WalkEnd>
-    requires { AreInputs inputs.now nodes.now }
+    requires { AreDoneInputs inputs.now nodes.now }
     ensures { option_map walk_of result
         ≡ past_walk (setting_of R.queries.by_profile profile (session_in past.now))
         (state_of_nodes inputs.now nodes.now false) key.now }
@@ -113,7 +113,7 @@ pub fn why_not<R: Runner>(
     finder: &mut Finder,
     key: &Key,
 ) -> Option<TableFault>
-    requires { AreInputs inputs.now nodes.now }
+    requires { AreDoneInputs inputs.now nodes.now }
     ensures { IsWhyNot (past_walk
         (setting_of R.queries.by_profile profile (session_in past.now))
         (state_of_nodes inputs.now nodes.now false) key.now) result }

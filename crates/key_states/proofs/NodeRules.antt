@@ -4,20 +4,20 @@ use Rattle.std.proofs.lemmas.Option.{none-some, same_Some}
 use Rattle.item_ids.specs.Keys.{key_cmp}
 use Rattle.key_states.specs.declared.nodes.Standing.{Standing}
 use Rattle.key_states.specs.declared.nodes.Standing.TheVariants as standing
-use Rattle.std.proofs.Common.{◌≡◌, ◌⊎◌, ◌==◌, inl, inr, ℕ, suc, zero, ◌+◌, ◌<◌, Bool, true, false, not, cond, List, [], ◌∷◌, ◌++◌, length, position, refl, sym, ap, ◌∙◌, subst, Option, Some, None, arith}
+use Rattle.std.proofs.Common.{◌≡◌, ◌⊎◌, ◌==◌, inl, inr, ℕ, suc, zero, ◌+◌, ◌<◌, Bool, true, false, not, cond, List, [], ◌∷◌, ◌++◌, length, position, refl, sym, ap, ◌∙◌, subst, Option, Some, None, arith, true≢false}
 use Rattle.std.specs.Prelude.{if◌then◌else◌, nat_lt, Result, Ok, Err, OnOk}
 use Rattle.std.proofs.lemmas.Bool.{ltb-true, eqb-true, eq-eqb}
 use Rattle.std.proofs.Math.Decide.{dec_lt}
 use Rattle.item_ids.specs.declared.key.Key.{Key}
+use Rattle.item_ids.specs.Inputs.{rank}
 use Rattle.result_bytes.specs.declared.value.Value.{Value}
 use Rattle.recorder.specs.Projects.{Project}
 use Rattle.sessions.specs.declared.mark.Mark.{Mark}
 use Rattle.sessions.specs.declared.mark.Mark.TheVariants.{Input}
-use Rattle.recorder.specs.Backed.{rank}
 use Rattle.graph_rules.specs.Keys.{same_key, input_of}
 use Rattle.graph_rules.proofs.KeyRules.{same_refl, same_is, same_sym}
 use Rattle.graph_rules.specs.Steps.{Status, Unknown, Claimed, Running, Done, IsHeldBy, IsNotDone, IsDoneWith, at_opening}
-use Rattle.key_states.specs.Nodes.{Node, IsInputIn, AreInputs, AreOpened, status_of, status_in, status_at, unless_input, has_key, KeysStandOnce, IsFirst, AllAbove}
+use Rattle.key_states.specs.Nodes.{Node, IsInputIn, AreDoneInputs, AreOpened, status_of, status_in, status_at, unless_input, has_key, KeysStandOnce, IsFirstNode, AllAbove}
 use Rattle.key_states.specs.Closing.{IsQuiet}
 use Rattle.key_states.specs.Reached.{AllQuiet}
 use Rattle.std.specs.Ordering.{eq_by_cmp}
@@ -32,24 +32,24 @@ same_test a b = refl
 sought_same : (q x : Key) → eq_by_cmp key_cmp q x ≡ same_key x q
 sought_same q x = same_test q x ∙ same_sym q x
 
-first_within : (ns : List Node) (q : Key) → position_or_len (eq_by_cmp key_cmp q) (keys_of ns) < length (keys_of ns) → IsFirst ns q (position_or_len (eq_by_cmp key_cmp q) (keys_of ns)) × (position_or_len (eq_by_cmp key_cmp q) (keys_of ns) < length ns)
+first_within : (ns : List Node) (q : Key) → position_or_len (eq_by_cmp key_cmp q) (keys_of ns) < length (keys_of ns) → IsFirstNode ns q (position_or_len (eq_by_cmp key_cmp q) (keys_of ns)) × (position_or_len (eq_by_cmp key_cmp q) (keys_of ns) < length ns)
 first_within [] q lt = absurd (omega (arith, lt))
 first_within (m ∷ ns) q lt =
     (elim (eq_by_cmp key_cmp q m.0) as (λ b. eq_by_cmp key_cmp q m.0 ≡ b → cond (not b) (1 + position_or_len (eq_by_cmp key_cmp q) (keys_of ns)) 0 < suc (length (keys_of ns))
-    → IsFirst (m ∷ ns) q (cond (not b) (1 + position_or_len (eq_by_cmp key_cmp q) (keys_of ns)) 0) × (cond (not b) (1 + position_or_len (eq_by_cmp key_cmp q) (keys_of ns)) 0 < suc (length ns))) [
+    → IsFirstNode (m ∷ ns) q (cond (not b) (1 + position_or_len (eq_by_cmp key_cmp q) (keys_of ns)) 0) × (cond (not b) (1 + position_or_len (eq_by_cmp key_cmp q) (keys_of ns)) 0 < suc (length ns))) [
       | true ↦ λ is l. (sym (sought_same q m.0) ∙ is, omega arith)
       | false ↦ λ is l.
           let rest = first_within ns q (omega (arith, l)) in
           let one : suc (position_or_len (eq_by_cmp key_cmp q) (keys_of ns)) ≡ 1 + position_or_len (eq_by_cmp key_cmp q) (keys_of ns) = omega arith in
-          (subst (λ (i : ℕ). IsFirst (m ∷ ns) q i) one (sym (sought_same q m.0) ∙ is, rest.0), omega (arith, rest.1))
+          (subst (λ (i : ℕ). IsFirstNode (m ∷ ns) q i) one (sym (sought_same q m.0) ∙ is, rest.0), omega (arith, rest.1))
     ]) refl lt
 
 -- the place that the map finds is the key's first one
-pub first_at : (ns : List Node) (q : Key) (i : ℕ) → position (eq_by_cmp key_cmp q) (keys_of ns) ≡ Some i → IsFirst ns q i × (i < length ns)
+pub first_at : (ns : List Node) (q : Key) (i : ℕ) → position (eq_by_cmp key_cmp q) (keys_of ns) ≡ Some i → IsFirstNode ns q i × (i < length ns)
 first_at ns q i is =
     (elim (nat_lt (position_or_len (eq_by_cmp key_cmp q) (keys_of ns)) (length (keys_of ns))) as (λ b. nat_lt (position_or_len (eq_by_cmp key_cmp q) (keys_of ns)) (length (keys_of ns)) ≡ b
-    → cond b (Some (position_or_len (eq_by_cmp key_cmp q) (keys_of ns))) None ≡ Some i → IsFirst ns q i × (i < length ns)) [
-      | true ↦ λ lt e. let f = first_within ns q (ltb-true _ _ lt) in subst (λ j. IsFirst ns q j × (j < length ns)) (same_Some _ i e) f
+    → cond b (Some (position_or_len (eq_by_cmp key_cmp q) (keys_of ns))) None ≡ Some i → IsFirstNode ns q i × (i < length ns)) [
+      | true ↦ λ lt e. let f = first_within ns q (ltb-true _ _ lt) in subst (λ j. IsFirstNode ns q j × (j < length ns)) (same_Some _ i e) f
       | false ↦ λ lt e. absurd (none-some i e)
     ]) refl is
 
@@ -79,7 +79,7 @@ put_later m q k x y z r isnt is = (elim (same_key m k) as (λ b. same_key m k �
 ]) refl
 
 -- writing how the first node of a key stands
-pub status_put : (ns : List Node) (q k : Key) (at : ℕ) (s : Standing) → IsFirst ns q at
+pub status_put : (ns : List Node) (q k : Key) (at : ℕ) (s : Standing) → IsFirstNode ns q at
     → status_in (set_value_at ns at s) k ≡ (if same_key q k then status_of s else status_in ns k)
 status_put [] q k at s f = elim f [ ]
 status_put (m ∷ ns) q k zero s f =
@@ -93,7 +93,7 @@ key_put [] q at s = refl
 key_put (m ∷ ns) q zero s = refl
 key_put (m ∷ ns) q (suc at) s = rw (key_put ns q at s) refl
 
-pub first_below : (ns : List Node) (q : Key) (i : ℕ) → IsFirst ns q i → i < length ns
+pub first_below : (ns : List Node) (q : Key) (i : ℕ) → IsFirstNode ns q i → i < length ns
 first_below [] q i f = elim f [ ]
 first_below (m ∷ ns) q zero f = omega arith
 first_below (m ∷ ns) q (suc i) f = let h = first_below ns q i f.1 in omega arith
@@ -125,14 +125,11 @@ not_here ns w m k absent held =
 
 -- ---- which key is in the way
 
-false_true : false ≡ true → ⊥
-false_true e = cc
-
 same_or_not : (u w : ℕ) → (u ≡ w) ⊎ (u ≡ w → ⊥)
 same_or_not u w =
     (elim (u == w) as (λ b. (u == w) ≡ b → (u ≡ w) ⊎ (u ≡ w → ⊥)) [
       | true ↦ λ is. inl (eqb-true u w is)
-      | false ↦ λ isnt. inr (λ is. false_true (sym isnt ∙ eq-eqb u w is))
+      | false ↦ λ isnt. inr (λ is. true≢false (sym (eq-eqb u w is) ∙ isnt))
     ]) refl
 
 held_or_free : (w : ℕ) (x : Status) → IsHeldBy w x ⊎ (IsHeldBy w x → ⊥)
@@ -244,7 +241,7 @@ done_here (Some u) x v es m inner is = elim (inner u refl) [
 done_here None x v es m inner is = is
 
 -- a key that is done here
-pub status_done : (p : Project) (ns : List Node) (q : Key) (v : Value) (es : List Key) (m : Mark) → AreInputs p ns → status_in ns q ≡ Done v es m → status_at p ns q ≡ Done v es m
+pub status_done : (p : Project) (ns : List Node) (q : Key) (v : Value) (es : List Key) (m : Mark) → AreDoneInputs p ns → status_in ns q ≡ Done v es m → status_at p ns q ≡ Done v es m
 status_done p ns q v es m inputs is = done_here (input_of p q) (status_in ns q) v es m (inputs q) is
 
 held_here : (o : Option Value) (x : Status) → ((u : Value) → o ≡ Some u → IsInputIn u x) → (x ≡ Unknown → ⊥) → IsNotDone x → unless_input o x ≡ x
@@ -255,7 +252,7 @@ held_here (Some u) x inner known still = elim (inner u refl) [
 held_here None x inner known still = refl
 
 -- a key that is claimed or running here
-pub status_held : (p : Project) (ns : List Node) (q : Key) (x : Status) → AreInputs p ns → status_in ns q ≡ x → (x ≡ Unknown → ⊥) → IsNotDone x → status_at p ns q ≡ x
+pub status_held : (p : Project) (ns : List Node) (q : Key) (x : Status) → AreDoneInputs p ns → status_in ns q ≡ x → (x ≡ Unknown → ⊥) → IsNotDone x → status_at p ns q ≡ x
 status_held p ns q x inputs is known still =
     held_here (input_of p q) (status_in ns q) (inputs q) (λ u. known (sym is ∙ u)) (subst (λ (y : Status). IsNotDone y) (sym is) still) ∙ is
 

@@ -1,5 +1,5 @@
 -- Which nodes of a list are claimed or running, as the list grows and changes.
-use Rattle.std.proofs.Common.{◌≡◌, ◌==◌, ℕ, zero, suc, ◌<◌, true, false, not, List, [], ◌∷◌, ◌++◌, length, filter, get_or, slice_get, Some, refl, sym, ap, ◌∙◌, subst, arith, ◌↔◌, ◌⊎◌, inl, inr}
+use Rattle.std.proofs.Common.{◌≡◌, ◌==◌, ℕ, zero, suc, ◌<◌, true, false, not, List, [], ◌∷◌, ◌++◌, length, filter, get_or, slice_get, Some, refl, sym, ap, ◌∙◌, subst, arith, ◌↔◌, ◌⊎◌, inl, inr, true≢false}
 use Rattle.std.specs.Prelude.{if◌then◌else◌, Contains}
 use Rattle.std.specs.List.{AllByRecursion}
 use Rattle.std.proofs.lemmas.List.Elements.{Contains-append_left, Contains-append_right}
@@ -7,19 +7,17 @@ use Rattle.std.proofs.lemmas.Map.Views.{exact_unsigned_eq}
 use Rattle.std.proofs.lemmas.Bool.{eq-eqb}
 use Rattle.std.proofs.lemmas.Option.{none-some, same_Some}
 use Rattle.item_ids.specs.declared.key.Key.{Key}
+use Rattle.item_ids.specs.Inputs.{rank}
+use Rattle.item_ids.proofs.Lists.{all_from}
 use Rattle.indexmap.specs.Layout.{set_value_at}
-use Rattle.recorder.specs.Backed.{rank}
 use Rattle.graph_rules.specs.Steps.{Status, Unknown, Claimed, Running, Done, IsHeldBy}
-use Rattle.graph_rules.proofs.NextRules.{all_at, all_from}
+use Rattle.graph_rules.proofs.NextRules.{all_at}
 use Rattle.key_states.specs.Closing.{IsQuiet}
-use Rattle.key_states.specs.Nodes.{Node, status_of, status_in, IsFirst, AllAbove}
+use Rattle.key_states.specs.Nodes.{Node, status_of, status_in, IsFirstNode, AllAbove}
 use Rattle.key_states.specs.declared.nodes.Standing.{Standing}
 use Rattle.key_states.specs.declared.nodes.Standing.TheVariants as standing
 use Rattle.key_states.specs.Reached.{AllQuiet}
 use Rattle.key_states.specs.PendingNodes.{IsPendingAt, ArePending, IsAboveAt}
-
-false_true : false ≡ true → ⊥
-false_true e = cc
 
 -- what is held isn't quiet
 held_pending : (w : ℕ) (s : Status) → IsHeldBy w s → IsQuiet s → ⊥
@@ -135,7 +133,7 @@ pending_more ns n places stands pending = record {
     ]) refl
       where
         isnt : (x y : ℕ) → (x == y) ≡ false → x ≡ y → ⊥
-        isnt x y e same = false_true (sym e ∙ eq-eqb x y same)
+        isnt x y e same = true≢false (sym (eq-eqb x y same) ∙ e)
 
 -- a node that is neither claimed nor running
 no_more : (ns : List Node) (n : Node) (i : ℕ) → IsQuiet (status_of n.1) → IsPendingAt (ns ++ n ∷ []) i → IsPendingAt ns i
@@ -209,7 +207,7 @@ module _ (ns : List Node) (places : List ℕ) (at : ℕ) (x : Standing) (pending
   ]) refl
     where
       unequal : (x y : ℕ) → (x == y) ≡ false → x ≡ y → ⊥
-      unequal x y e same = false_true (sym e ∙ eq-eqb x y same)
+      unequal x y e same = true≢false (sym (eq-eqb x y same) ∙ e)
 
   elsewhere : (i : ℕ) → (i ≡ at → ⊥) → IsPendingAt ns i → IsPendingAt (set_value_at ns at x) i
   elsewhere i isnt is = pending_set ns at i x isnt is
@@ -219,7 +217,7 @@ module _ (ns : List Node) (places : List ℕ) (at : ℕ) (x : Standing) (pending
   left [] all = tt
   left (p ∷ ps) all = (elim (p == at) as (λ b. (p == at) ≡ b → AllByRecursion (IsPendingAt (set_value_at ns at x)) (if not b then p ∷ filter (λ j. not (j == at)) ps else filter (λ j. not (j == at)) ps)) [
     | true ↦ λ _. left ps all.1
-    | false ↦ λ e. (elsewhere p (λ same. false_true (sym e ∙ eq-eqb p at same)) all.0, left ps all.1)
+    | false ↦ λ e. (elsewhere p (λ same. true≢false (sym (eq-eqb p at same) ∙ e)) all.0, left ps all.1)
   ]) refl
 
   -- a node that was claimed or running and still is
@@ -254,7 +252,7 @@ module _ (ns : List Node) (places : List ℕ) (at : ℕ) (x : Standing) (pending
   }
 
 -- the first node of a key that is claimed or running
-pub first_pending : (ns : List Node) (q : Key) (i : ℕ) → IsFirst ns q i → ¬ IsQuiet (status_in ns q) → IsPendingAt ns i
+pub first_pending : (ns : List Node) (q : Key) (i : ℕ) → IsFirstNode ns q i → ¬ IsQuiet (status_in ns q) → IsPendingAt ns i
 first_pending [] q i first is = absurd first
 first_pending (m ∷ ns) q zero first is = rw first at is
 first_pending (m ∷ ns) q (suc i) first is = first_pending ns q i first.1 (rw first.0 at is)

@@ -20,7 +20,7 @@ use Rattle.graph_rules.specs.Graphs.{IsRoot, answer, files, source, IsReached, e
 use Rattle.graph_rules.specs.Graphs.IsReached.{root as starts}
 use Rattle.graph_rules.proofs.KeySets.{has_found}
 use Rattle.key_states.specs.Nodes.{Node, status_at}
-use Rattle.key_states.specs.Reached.{key_in, AreRoots, AreReached, HasEdges, Spreads, Adds}
+use Rattle.key_states.specs.Reached.{key_in, AreRoots, AreReached, HasEdges, Spreads, AddsKeys}
 
 -- ---- the roots
 
@@ -63,7 +63,7 @@ are_roots p ks is q = rw is (
 
 -- ---- keys that are added
 
-pub adds_none : (old : List Key) → Adds old [] old
+pub adds_none : (old : List Key) → AddsKeys old [] old
 adds_none old = record {
   more = [];
   whole = rw append-nil refl;
@@ -72,7 +72,7 @@ adds_none old = record {
 }
 
 -- a key that was there
-adds_old : (found : List Key) (x : Key) → Contains found x → Adds found (x ∷ []) found
+adds_old : (found : List Key) (x : Key) → Contains found x → AddsKeys found (x ∷ []) found
 adds_old found x there = record {
   more = [];
   whole = rw append-nil refl;
@@ -84,7 +84,7 @@ adds_old found x there = record {
 }
 
 -- a key that is added
-adds_new : (found : List Key) (x : Key) → Adds found (x ∷ []) (found ++ x ∷ [])
+adds_new : (found : List Key) (x : Key) → AddsKeys found (x ∷ []) (found ++ x ∷ [])
 adds_new found x = record {
   more = x ∷ [];
   whole = refl;
@@ -93,17 +93,17 @@ adds_new found x = record {
 }
 
 -- a key that is inserted, where it may have been there
-pub adds_inserted : (found : List Key) (x : Key) → Adds found (x ∷ []) (insert_key (eq_by_cmp key_cmp) found x)
+pub adds_inserted : (found : List Key) (x : Key) → AddsKeys found (x ∷ []) (insert_key (eq_by_cmp key_cmp) found x)
 adds_inserted found x =
-    (elim (list_any (eq_by_cmp key_cmp x) found) as (λ b. list_any (eq_by_cmp key_cmp x) found ≡ b → Adds found (x ∷ []) (if b then found else found ++ x ∷ [])) [
+    (elim (list_any (eq_by_cmp key_cmp x) found) as (λ b. list_any (eq_by_cmp key_cmp x) found ≡ b → AddsKeys found (x ∷ []) (if b then found else found ++ x ∷ [])) [
       | true ↦ λ there. adds_old found x (has_found found x there)
       | false ↦ λ new. adds_new found x
     ]) refl
 
 -- one more edge
-pub adds_more : (old edges found new : List Key) (i : ℕ) (x : Key) → i < length edges → x ≡ get_or edges i x → Adds old (take i edges) found → Adds found (x ∷ []) new
-    → Adds old (take (i + 1) edges) new
-adds_more old edges found new i x lt is so_far one = subst (λ (es : List Key). Adds old es new) (sym front) (record {
+pub adds_more : (old edges found new : List Key) (i : ℕ) (x : Key) → i < length edges → x ≡ get_or edges i x → AddsKeys old (take i edges) found → AddsKeys found (x ∷ []) new
+    → AddsKeys old (take (i + 1) edges) new
+adds_more old edges found new i x lt is so_far one = subst (λ (es : List Key). AddsKeys old es new) (sym front) (record {
   more = so_far.more ++ one.more;
   whole = one.whole ∙ (ap (λ (ks : List Key). ks ++ one.more) so_far.whole ∙ append_assoc old so_far.more one.more);
   only = λ q h. elim (Contains-append_cases so_far.more one.more q h) [
@@ -121,7 +121,7 @@ adds_more old edges found new i x lt is so_far one = subst (λ (es : List Key). 
 
 -- ---- keys that are reached
 
-pub roots_added : (p : Project) (first ks : List Key) → AreRoots p first → Adds [] first ks → AreRoots p ks
+pub roots_added : (p : Project) (first ks : List Key) → AreRoots p first → AddsKeys [] first ks → AreRoots p ks
 roots_added p first ks roots a q = (
   (λ h. (roots q).0 (a.only q (subst (λ (xs : List Key). Contains xs q) a.whole h))),
   (λ r. a.has q ((roots q).1 r)),
@@ -144,7 +144,7 @@ same_done : (s : State) (q : Key) (v u : Value) (es fs : List Key) (m n : Mark) 
 same_done s q v u es fs m n a b = let both : Done v es m ≡ Done u fs n = sym a ∙ b in cc
 
 pub spreads_more : (p : Project) (s : State) (ks all : List Key) (i : ℕ) (v : Value) (es : List Key) (m : Mark)
-    → Spreads p s ks i → i < length ks → s.at (key_in ks i) ≡ Done v es m → Adds ks es all → Spreads p s all (i + 1)
+    → Spreads p s ks i → i < length ks → s.at (key_in ks i) ≡ Done v es m → AddsKeys ks es all → Spreads p s all (i + 1)
 spreads_more p s ks all i v es m sp lt is a = record {
   roots = λ q r. kept q (sp.roots q r);
   only = λ q h. elim (Contains-append_cases ks a.more q (subst (λ (xs : List Key). Contains xs q) a.whole h)) [

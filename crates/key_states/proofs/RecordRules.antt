@@ -10,16 +10,18 @@ use Rattle.item_ids.specs.declared.key.Key.{Key}
 use Rattle.item_ids.specs.declared.key.Key.TheVariants.{Files}
 use Rattle.item_ids.specs.Keys.{key_cmp, key_total}
 use Rattle.item_ids.proofs.Apart.{key_itself}
+use Rattle.item_ids.proofs.Lists.{all_push}
+use Rattle.item_ids.specs.KeyLists.{AreLower, NoneTwice}
+use Rattle.item_ids.specs.Inputs.{rank}
 use Rattle.mj_answer.specs.Order.{IsAscendingBy}
 use Rattle.result_bytes.specs.declared.value.Value.{Value}
 use Rattle.recorder.specs.Projects.{Project}
-use Rattle.recorder.specs.Backed.{AreLower, NoneTwice}
 use Rattle.sessions.specs.declared.mark.Mark.{Mark}
-use Rattle.sessions.specs.Sessions.{RecordValue, Entry, rank, key_at, entry_of, IsAbove, IsEdge, AreDistinct, AreRecords}
+use Rattle.sessions.specs.Sessions.{RecordValue, Entry, key_at, entry_of, IsAbove, IsEdge, AreRecords}
 use Rattle.graph_rules.specs.Steps.{Status, Done, State}
 use Rattle.graph_rules.specs.Sound.{IsDoneInOrder, IsInOrderAt, IsInOrder}
-use Rattle.graph_rules.specs.Graphs.{IsReached, KeyBefore, AreAscending, IsEntryOf, AreClosed}
-use Rattle.key_states.specs.Reached.{Ascend, key_in, AreReached, IsRecordOf, AreRecordsOf}
+use Rattle.graph_rules.specs.Graphs.{IsReached, KeyBefore, AreAscendingByKey, IsEntryOf, AreClosed}
+use Rattle.key_states.specs.Reached.{Ascend, key_in, AreReached, IsDoneRecord, AreDoneRecords}
 
 -- ---- keys in order
 
@@ -56,7 +58,7 @@ others : (f : ℕ → Key) (e : ℕ) (es : List ℕ) → AllByRecursion (λ k. k
 others f e [] h = tt
 others f e (x ∷ es) h = ((λ same. h.0 (ap f same)), others f e es h.1)
 
-distinct : (f : ℕ → Key) (es : List ℕ) → NoneTwice (λ k. k) (map f es) → AreDistinct es
+distinct : (f : ℕ → Key) (es : List ℕ) → NoneTwice (λ k. k) (map f es) → NoneTwice (λ e. e) es
 distinct f [] h = tt
 distinct f (e ∷ es) h = (others f e es h.0, distinct f es h.1)
 
@@ -80,15 +82,15 @@ module _ (lesser : (a b : Key) → rank a < rank b → key_cmp a b ≡ Less) whe
         ]
       ]
 
-  module _ (s : State) (ks : List Key) (rs : List RecordValue) (up : Ascend ks) (order : IsInOrder s) (of : AreRecordsOf s ks rs) where
+  module _ (s : State) (ks : List Key) (rs : List RecordValue) (up : Ascend ks) (order : IsInOrder s) (of : AreDoneRecords s ks rs) where
     key_here : (i : ℕ) (d : RecordValue) → i < length rs → key_in ks i ≡ (get_or rs i d).key
     key_here i d lt = ap (λ (xs : List Key). key_in xs i) (sym of.keys) ∙ get_or-map (λ (x : RecordValue). x.key) rs i d Files lt
 
     as_long : length ks ≡ length rs
     as_long = ap length (sym of.keys) ∙ length-map rs (λ (r : RecordValue). r.key)
 
-    is_of : (i : ℕ) (d : RecordValue) → i < length rs → IsRecordOf s ks (get_or rs i d)
-    is_of i d lt = All-from_recursion (IsRecordOf s ks) rs of.each i d lt
+    is_of : (i : ℕ) (d : RecordValue) → i < length rs → IsDoneRecord s ks (get_or rs i d)
+    is_of i d lt = All-from_recursion (IsDoneRecord s ks) rs of.each i d lt
 
     done_so : (i : ℕ) (d : RecordValue) → i < length rs → IsDoneInOrder s (get_or rs i d).key (get_or rs i d).value (map (key_in ks) (get_or rs i d).edges) (get_or rs i d).mark
     done_so i d lt = in_order s (get_or rs i d).key (s.at (get_or rs i d).key) (get_or rs i d).value (map (key_in ks) (get_or rs i d).edges) (get_or rs i d).mark (is_of i d lt).done (order (get_or rs i d).key)
@@ -130,10 +132,6 @@ module _ (lesser : (a b : Key) → rank a < rank b → key_cmp a b ≡ Less) whe
 
 -- ---- lists with one more item
 
-all_last : {X : Type 0} (P : X → Type 0) (xs : List X) (x : X) → AllByRecursion P xs → P x → AllByRecursion P (xs ++ x ∷ [])
-all_last P [] x h p = (p, tt)
-all_last P (y ∷ xs) x h p = (h.0, all_last P xs x h.1 p)
-
 map_last : {X : Type 0} (f : X → Key) (xs : List X) (ks : List Key) (i : ℕ) (k : Key) (x : X) → i < length ks → k ≡ get_or ks i k → map f xs ≡ take i ks → f x ≡ k → map f (xs ++ x ∷ []) ≡ take (i + 1) ks
 map_last f xs ks i k x lt is so_far here =
     map-append f xs (x ∷ [])
@@ -144,13 +142,13 @@ pub places_more : (ks es : List Key) (is : List ℕ) (i : ℕ) (e : Key) (at : �
 places_more ks es is i e at lt eq so_far here = map_last (key_in ks) is es i e at lt eq so_far here
 
 pub inside_more : (n : ℕ) (is : List ℕ) (at : ℕ) → AllByRecursion (λ e. e < n) is → at < n → AllByRecursion (λ e. e < n) (is ++ at ∷ [])
-inside_more n is at h lt = all_last (λ e. e < n) is at h lt
+inside_more n is at h lt = all_push (λ e. e < n) is at h lt
 
 pub keys_more : (ks : List Key) (rs : List RecordValue) (i : ℕ) (k : Key) (r : RecordValue) → i < length ks → k ≡ get_or ks i k → map (λ r. r.key) rs ≡ take i ks → r.key ≡ k → map (λ r. r.key) (rs ++ r ∷ []) ≡ take (i + 1) ks
 keys_more ks rs i k r lt eq so_far here = map_last (λ (x : RecordValue). x.key) rs ks i k r lt eq so_far here
 
-pub each_more : (s : State) (ks : List Key) (rs : List RecordValue) (r : RecordValue) → AllByRecursion (IsRecordOf s ks) rs → IsRecordOf s ks r → AllByRecursion (IsRecordOf s ks) (rs ++ r ∷ [])
-each_more s ks rs r h one = all_last (IsRecordOf s ks) rs r h one
+pub each_more : (s : State) (ks : List Key) (rs : List RecordValue) (r : RecordValue) → AllByRecursion (IsDoneRecord s ks) rs → IsDoneRecord s ks r → AllByRecursion (IsDoneRecord s ks) (rs ++ r ∷ [])
+each_more s ks rs r h one = all_push (IsDoneRecord s ks) rs r h one
 
 -- ---- what the records tell
 
@@ -158,7 +156,7 @@ told_all : (rs xs : List RecordValue) (B : Key → Key → Type 0) (k : Key) →
 told_all rs [] B k h = tt
 told_all rs (x ∷ xs) B k h = (h.0, told_all rs xs B k h.1)
 
-told_ascend : (rs xs : List RecordValue) → IsAscendingBy KeyBefore (map (λ r. r.key) xs) → AreAscending (map (entry_of rs) xs)
+told_ascend : (rs xs : List RecordValue) → IsAscendingBy KeyBefore (map (λ r. r.key) xs) → AreAscendingByKey (map (entry_of rs) xs)
 told_ascend rs [] h = tt
 told_ascend rs (x ∷ xs) h = (told_all rs xs KeyBefore x.key h.0, told_ascend rs xs h.1)
 
@@ -186,13 +184,13 @@ has_key (y ∷ xs) x (zero, lt, is) = let l : 0 < length (map (λ (r : RecordVal
 has_key (y ∷ xs) x (suc k, lt, is) = let h = has_key xs x (k, (omega arith), is) in let l : suc h.0 < length (map (λ (r : RecordValue). r.key) (y ∷ xs)) = let b = h.1 in omega arith in (suc h.0, l, h.2)
 
 -- the records of just the keys that are reached, in order, are what the state closes with
-pub are_closed : (p : Project) (s : State) (ks : List Key) (rs : List RecordValue) → AreReached p s ks → Ascend ks → AreRecordsOf s ks rs → AreClosed p s (map (entry_of rs) rs)
+pub are_closed : (p : Project) (s : State) (ks : List Key) (rs : List RecordValue) → AreReached p s ks → Ascend ks → AreDoneRecords s ks rs → AreClosed p s (map (entry_of rs) rs)
 are_closed p s ks rs reached up of = record {
   ascending = told_ascend rs rs (subst Ascend (sym of.keys) up);
   each = λ r has.
       let at = entry_from rs rs r has in
       let x = at.0 in
-      let is_of = All-contains (IsRecordOf s ks) rs x (All-from_recursion (IsRecordOf s ks) rs of.each) at.1 in
+      let is_of = All-contains (IsDoneRecord s ks) rs x (All-from_recursion (IsDoneRecord s ks) rs of.each) at.1 in
       let key : Contains ks x.key = subst (λ (xs : List Key). Contains xs x.key) of.keys (has_key rs x at.1) in
       let told : s.at x.key ≡ Done x.value (map (key_at rs) x.edges) x.mark = subst (λ (xs : List Key). s.at x.key ≡ Done x.value (map (key_in xs) x.edges) x.mark) (sym of.keys) is_of.done in
       subst (λ (e : Entry). IsReached p s e.key × IsEntryOf s e) at.2 ((reached x.key).0 key, told);

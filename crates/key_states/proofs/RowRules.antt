@@ -19,22 +19,22 @@ use Rattle.item_ids.specs.Keys.{key_cmp}
 use Rattle.sessions.specs.Sessions.{RecordValue, IsRecord}
 use Rattle.graph_rules.specs.Steps.{State}
 use Rattle.key_states.specs.declared.reaching.Found.{Found}
-use Rattle.key_states.specs.declared.rows.Row.{Row}
-use Rattle.key_states.specs.contracts.rows.RowOrd.TheImpl.{cmp-value}
-use Rattle.key_states.specs.Reached.{EachAt, IsFoundAs, IsRecordOf, key_in}
+use Rattle.key_states.specs.declared.rows.KeyRow.{KeyRow}
+use Rattle.key_states.specs.contracts.rows.KeyRowOrd.TheImpl.{cmp-value}
+use Rattle.key_states.specs.Reached.{EachAt, IsFoundAs, IsDoneRecord, key_in}
 use Rattle.key_states.specs.Rows.{keys_of, IsRowOf, IsOfPlace, AreOrdered, AreRanks, AreWithin, AreRowsOf, rank_in}
 use Rattle.key_states.proofs.FoundRules.{inside_all}
 use Rattle.key_states.proofs.SetRules.{sorted_ascend}
 
 -- a row for places where there is none
-no_row : Row
+no_row : KeyRow
 no_row = record { key = Files; at = 0 }
 
-key_here : (rows : List Row) (i : ℕ) (d : Row) → i < length rows → key_in (keys_of rows) i ≡ (get_or rows i d).key
-key_here rows i d lt = get_or-map (λ (r : Row). r.key) rows i d Files lt
+key_here : (rows : List KeyRow) (i : ℕ) (d : KeyRow) → i < length rows → key_in (keys_of rows) i ≡ (get_or rows i d).key
+key_here rows i d lt = get_or-map (λ (r : KeyRow). r.key) rows i d Files lt
 
-as_many : (rows : List Row) → length (keys_of rows) ≡ length rows
-as_many rows = length-map rows (λ (r : Row). r.key)
+as_many : (rows : List KeyRow) → length (keys_of rows) ≡ length rows
+as_many rows = length-map rows (λ (r : KeyRow). r.key)
 
 -- ---- in order
 
@@ -47,22 +47,22 @@ first_decides Less p e = e
 first_decides Equal p e = refl
 first_decides Greater p e = refl
 
-pub rows_sorted : (rows : List Row) → IsSorted cmp-value.it rows → IsSorted key_cmp (keys_of rows)
+pub rows_sorted : (rows : List KeyRow) → IsSorted cmp-value.it rows → IsSorted key_cmp (keys_of rows)
 rows_sorted rows sorted k d low high =
     let lt : k + 1 < length rows = omega (arith, high, as_many rows) in
     let l : k < length rows = omega (arith, lt) in
-    let next = get_or-map (λ (r : Row). r.key) rows (k + 1) no_row d lt in
-    let this = get_or-map (λ (r : Row). r.key) rows k no_row d l in
+    let next = get_or-map (λ (r : KeyRow). r.key) rows (k + 1) no_row d lt in
+    let this = get_or-map (λ (r : KeyRow). r.key) rows k no_row d l in
     rw (next, this) (first_decides _ _ (sorted k no_row low lt))
 
-module _ (ks : List Key) (found rows : List Row) (keys : keys_of found ≡ ks) (places : EachAt (λ i r. r.at ≡ i) found) (moved : IsPermutation found rows) where
+module _ (ks : List Key) (found rows : List KeyRow) (keys : keys_of found ≡ ks) (places : EachAt (λ i r. r.at ≡ i) found) (moved : IsPermutation found rows) where
   long : length found ≡ length ks
   long = sym (as_many found) ∙ ap length keys
 
-  row_is : (k : ℕ) (r : Row) → k < length found → get_or found k r ≡ r → IsRowOf ks r
+  row_is : (k : ℕ) (r : KeyRow) → k < length found → get_or found k r ≡ r → IsRowOf ks r
   row_is k r lt is =
-      let at : r.at ≡ k = ap (λ (x : Row). x.at) (sym is) ∙ places k r lt in
-      let key : r.key ≡ key_in ks k = ap (λ (x : Row). x.key) (sym is) ∙ (sym (key_here found k r lt) ∙ ap (λ (xs : List Key). key_in xs k) keys) in
+      let at : r.at ≡ k = ap (λ (x : KeyRow). x.at) (sym is) ∙ places k r lt in
+      let key : r.key ≡ key_in ks k = ap (λ (x : KeyRow). x.key) (sym is) ∙ (sym (key_here found k r lt) ∙ ap (λ (xs : List Key). key_in xs k) keys) in
       let within : r.at < length ks = omega (arith, at, lt, long) in
       (within, key ∙ ap (key_in ks) (sym at))
 
@@ -76,10 +76,10 @@ module _ (ks : List Key) (found rows : List Row) (keys : keys_of found ≡ ks) (
       let l : place < length found = omega (arith, lt, long) in
       let x = get_or found place no_row in
       let there = Contains-permutation found rows x moved (Contains-get_or found place no_row l) in
-      (there.0, (there.1, λ d. ap (λ (r : Row). r.at) (get_or_default rows there.0 d x there.1 ∙ there.2) ∙ places place no_row l))
+      (there.0, (there.1, λ d. ap (λ (r : KeyRow). r.at) (get_or_default rows there.0 d x there.1 ∙ there.2) ∙ places place no_row l))
 
   same_keys : IsPermutation ks (keys_of rows)
-  same_keys = subst (λ (xs : List Key). IsPermutation xs (keys_of rows)) keys (IsPermutation-map (λ (r : Row). r.key) found rows moved)
+  same_keys = subst (λ (xs : List Key). IsPermutation xs (keys_of rows)) keys (IsPermutation-map (λ (r : KeyRow). r.key) found rows moved)
 
   pub ordered : ((a b : Key) → eq_by_cmp key_cmp a b ≡ eq_by_cmp key_cmp b a) → length rows ≡ length found → IsDistinct (eq_by_cmp key_cmp) (keys_of found) → IsSorted key_cmp (keys_of rows) → AreOrdered ks rows
   ordered flips count apart sorted = record {
@@ -93,13 +93,13 @@ module _ (ks : List Key) (found rows : List Row) (keys : keys_of found ≡ ks) (
 -- ---- ranks
 
 -- the rank of the place of each of the first rows is the index of the row of this place
-pub record AreFirstRanks (rows : List Row) (ranks : List ℕ) (n : ℕ) : Type 0 where
+pub record AreFirstRanks (rows : List KeyRow) (ranks : List ℕ) (n : ℕ) : Type 0 where
   pub count : length ranks ≡ length rows
-  pub each : (i : ℕ) (d : Row) → i < length rows → i < n → IsOfPlace rows (rank_in ranks (get_or rows i d).at) (get_or rows i d).at
+  pub each : (i : ℕ) (d : KeyRow) → i < length rows → i < n → IsOfPlace rows (rank_in ranks (get_or rows i d).at) (get_or rows i d).at
 
-module _ (rows : List Row) (ranks : List ℕ) (n : ℕ) (row : Row) (lt : n < length rows) (is : row ≡ get_or rows n row) (so : AreFirstRanks rows ranks n) (within : row.at < length ranks) where
+module _ (rows : List KeyRow) (ranks : List ℕ) (n : ℕ) (row : KeyRow) (lt : n < length rows) (is : row ≡ get_or rows n row) (so : AreFirstRanks rows ranks n) (within : row.at < length ranks) where
   here : IsOfPlace rows n row.at
-  here = (lt, λ d. ap (λ (r : Row). r.at) (get_or_default rows n d row lt ∙ sym is))
+  here = (lt, λ d. ap (λ (r : KeyRow). r.at) (get_or_default rows n d row lt ∙ sym is))
 
   noted : (place : ℕ) → row.at ≡ place → IsOfPlace rows (rank_in (set ranks row.at n) place) place
   noted place same =
@@ -109,10 +109,10 @@ module _ (rows : List Row) (ranks : List ℕ) (n : ℕ) (row : Row) (lt : n < le
   left : (place : ℕ) → (place ≡ row.at → ⊥) → IsOfPlace rows (rank_in ranks place) place → IsOfPlace rows (rank_in (set ranks row.at n) place) place
   left place other h = subst (λ (k : ℕ). IsOfPlace rows k place) (sym (get_or-set_other ranks row.at place n 0 other)) h
 
-  ranked : (i : ℕ) (d : Row) → i < length rows → i < n + 1 → IsOfPlace rows (rank_in (set ranks row.at n) (get_or rows i d).at) (get_or rows i d).at
+  ranked : (i : ℕ) (d : KeyRow) → i < length rows → i < n + 1 → IsOfPlace rows (rank_in (set ranks row.at n) (get_or rows i d).at) (get_or rows i d).at
   ranked i d l below =
       elim (eq-or-lt_of_le (let le : i ≤ n = omega (arith, below) in le)) [
-        | inl e ↦ noted (get_or rows i d).at (ap (λ (r : Row). r.at) (is ∙ (get_or_default rows n row d lt ∙ ap (λ (k : ℕ). get_or rows k d) (sym e))))
+        | inl e ↦ noted (get_or rows i d).at (ap (λ (r : KeyRow). r.at) (is ∙ (get_or_default rows n row d lt ∙ ap (λ (k : ℕ). get_or rows k d) (sym e))))
         | inr front ↦ (elim (cases_lt (get_or rows i d).at row.at) [
           | inl less ↦ left (get_or rows i d).at (λ e. absurd (omega (arith, less, e))) (so.each i d l front)
           | inr more ↦ (elim (eq-or-lt_of_le more) [
@@ -125,14 +125,14 @@ module _ (rows : List Row) (ranks : List ℕ) (n : ℕ) (row : Row) (lt : n < le
 -- ---- records by rows
 
 -- one more record
-pub rows_more : (rows : List Row) (rs : List RecordValue) (i : ℕ) (row : Row) (r : RecordValue) → i < length rows → row ≡ get_or rows i row → map (λ r. r.key) rs ≡ keys_of (take i rows) → r.key ≡ row.key → map (λ r. r.key) (rs ++ r ∷ []) ≡ keys_of (take (i + 1) rows)
+pub rows_more : (rows : List KeyRow) (rs : List RecordValue) (i : ℕ) (row : KeyRow) (r : RecordValue) → i < length rows → row ≡ get_or rows i row → map (λ r. r.key) rs ≡ keys_of (take i rows) → r.key ≡ row.key → map (λ r. r.key) (rs ++ r ∷ []) ≡ keys_of (take (i + 1) rows)
 rows_more rows rs i row r lt is so_far key =
     map-append (λ (x : RecordValue). x.key) rs (r ∷ [])
     ∙ (ap (λ (ys : List Key). ys ++ r.key ∷ []) so_far
-    ∙ (ap (λ (k : Key). keys_of (take i rows) ++ k ∷ []) (key ∙ ap (λ (x : Row). x.key) is)
-    ∙ (sym (map-append (λ (x : Row). x.key) (take i rows) (get_or rows i row ∷ [])) ∙ ap keys_of (sym (take_more rows i row lt)))))
+    ∙ (ap (λ (k : Key). keys_of (take i rows) ++ k ∷ []) (key ∙ ap (λ (x : KeyRow). x.key) is)
+    ∙ (sym (map-append (λ (x : KeyRow). x.key) (take i rows) (get_or rows i row ∷ [])) ∙ ap keys_of (sym (take_more rows i row lt)))))
 
-module _ (s : State) (rows : List Row) (fs : List Found) (of : AreRowsOf s rows fs) where
+module _ (s : State) (rows : List KeyRow) (fs : List Found) (of : AreRowsOf s rows fs) where
   pub within : AreWithin rows fs
   within = record {
     places = λ i d lt. let l = (of.ordered.each i d lt).0 in omega (arith, l, of.count);
@@ -159,7 +159,7 @@ module _ (s : State) (rows : List Row) (fs : List Found) (of : AreRowsOf s rows 
     ranks_inside [] h = tt
     ranks_inside (e ∷ es) h = ((let l = (at_rank e h.0).0 in omega (arith, l, as_many rows)), ranks_inside es h.1)
 
-    module _ (i : ℕ) (row : Row) (lt : i < length rows) (is : row ≡ get_or rows i row) (f : Found) (f_is : f ≡ get_or fs row.at f) where
+    module _ (i : ℕ) (row : KeyRow) (lt : i < length rows) (is : row ≡ get_or rows i row) (f : Found) (f_is : f ≡ get_or fs row.at f) where
       row_here : IsRowOf of.keys row
       row_here = subst (IsRowOf of.keys) (sym is) (of.ordered.each i row lt)
 
@@ -168,7 +168,7 @@ module _ (s : State) (rows : List Row) (fs : List Found) (of : AreRowsOf s rows 
           let l : row.at < length fs = let b = row_here.0 in omega (arith, b, of.count) in
           subst (λ (q : Key). IsFoundAs s of.keys q f) (sym row_here.1) (subst (IsFoundAs s of.keys (key_in of.keys row.at)) (sym f_is) (of.found row.at f l))
 
-      pub record_is : (r : RecordValue) → r.key ≡ row.key → r.value ≡ arc_value f.sealed.now → r.mark ≡ f.mark → r.edges ≡ map (rank_in ranks) f.edges.items → IsRecord r → IsRecordOf s (keys_of rows) r
+      pub record_is : (r : RecordValue) → r.key ≡ row.key → r.value ≡ arc_value f.sealed.now → r.mark ≡ f.mark → r.edges ≡ map (rank_in ranks) f.edges.items → IsRecord r → IsDoneRecord s (keys_of rows) r
       record_is r key value mark edges kept = record {
         done = rw (key, value, mark, edges, keys_ranked f.edges.items found_here.inside) found_here.done;
         inside = subst (AllByRecursion (λ e. e < length (keys_of rows))) (sym edges) (ranks_inside f.edges.items found_here.inside);

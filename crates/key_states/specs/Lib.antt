@@ -1,7 +1,7 @@
 pub mod KeptKeys
 pub mod Closing
 pub mod Nodes
-pub mod Knowing
+pub mod KeyStates
 pub mod PendingNodes
 pub mod Reached
 pub mod Rows

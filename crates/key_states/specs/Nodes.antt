@@ -1,11 +1,10 @@
 -- How keys stand in a list of nodes: pairs of a key and how it stands.
-use Rattle.std.specs.Prelude.{◌≡◌, ◌⊎◌, ℕ, ◌<◌, Bool, true, false, List, [], ◌∷◌, Option, Some, None, if◌then◌else◌}
-use Rattle.std.proofs.Common.{zero, suc}
+use Rattle.std.specs.Prelude.{◌≡◌, ◌⊎◌, ℕ, zero, suc, ◌<◌, Bool, true, false, List, [], ◌∷◌, Option, Some, None, if◌then◌else◌}
 use Rattle.std.specs.Arc.{arc_value}
 use Rattle.item_ids.specs.declared.key.Key.{Key}
+use Rattle.item_ids.specs.Inputs.{rank}
 use Rattle.result_bytes.specs.declared.value.Value.{Value}
 use Rattle.recorder.specs.Projects.{Project}
-use Rattle.recorder.specs.Backed.{rank}
 use Rattle.sessions.specs.declared.mark.Mark.TheVariants.{Input}
 use Rattle.graph_rules.specs.Keys.{same_key, input_of}
 use Rattle.graph_rules.specs.Steps.{Status, Unknown, Claimed, Running, Done, State, IsHeldBy}
@@ -36,10 +35,10 @@ KeysStandOnce [] = Unit {0}
 KeysStandOnce (n ∷ ns) = (has_key n.0 ns ≡ false) × KeysStandOnce ns
 
 -- the first node of the key is at this place
-abbrev pub IsFirst : List Node → Key → ℕ → Type 0
-IsFirst [] q i = ⊥
-IsFirst (n ∷ ns) q zero = same_key n.0 q ≡ true
-IsFirst (n ∷ ns) q (suc i) = (same_key n.0 q ≡ false) × IsFirst ns q i
+abbrev pub IsFirstNode : List Node → Key → ℕ → Type 0
+IsFirstNode [] q i = ⊥
+IsFirstNode (n ∷ ns) q zero = same_key n.0 q ≡ true
+IsFirstNode (n ∷ ns) q (suc i) = (same_key n.0 q ≡ false) × IsFirstNode ns q i
 
 -- whatever w has claimed or runs is above the rank
 abbrev pub AllAbove : ℕ → ℕ → List Node → Type 0
@@ -60,12 +59,12 @@ abbrev pub IsInputIn : Value → Status → Type 0
 IsInputIn v x = (x ≡ Unknown) ⊎ (x ≡ Done v [] Input)
 
 -- inputs that are here are done
-abbrev pub AreInputs : Project → List Node → Type 0
-AreInputs p ns = (q : Key) (v : Value) → input_of p q ≡ Some v → IsInputIn v (status_in ns q)
+abbrev pub AreDoneInputs : Project → List Node → Type 0
+AreDoneInputs p ns = (q : Key) (v : Value) → input_of p q ≡ Some v → IsInputIn v (status_in ns q)
 
 -- the nodes of a table that is opened: inputs that are done
 pub record AreOpened (p : Project) (ns : List Node) : Type 0 where
-  pub inputs : AreInputs p ns
+  pub inputs : AreDoneInputs p ns
   pub others : (q : Key) → input_of p q ≡ None → status_in ns q ≡ Unknown
 
 -- the state that a project and nodes stand for

@@ -1,8 +1,7 @@
 -- Which nodes of a list are claimed or running.
-use Rattle.std.specs.Prelude.{ℕ, ◌<◌, List, [], ◌∷◌, Contains}
+use Rattle.std.specs.Prelude.{ℕ, zero, suc, ◌<◌, List, [], ◌∷◌, Contains}
 use Rattle.std.specs.List.{AllByRecursion}
-use Rattle.std.proofs.Common.{zero, suc}
-use Rattle.recorder.specs.Backed.{rank}
+use Rattle.item_ids.specs.Inputs.{rank}
 use Rattle.graph_rules.specs.Steps.{IsHeldBy}
 use Rattle.key_states.specs.Closing.{IsQuiet}
 use Rattle.key_states.specs.Nodes.{Node, status_of}

@@ -52,7 +52,7 @@ pub record Spreads (p : Project) (s : State) (ks : List Key) (i : ℕ) : Type 0 
   pub closed : (j : ℕ) → j < i → HasEdges s ks (key_in ks j)
 
 -- the list with those of the edges behind it that it hadn't
-pub record Adds (old edges new : List Key) : Type 0 where
+pub record AddsKeys (old edges new : List Key) : Type 0 where
   pub more : List Key
   pub whole : new ≡ old ++ more
   pub only : (q : Key) → Contains more q → Contains edges q
@@ -68,12 +68,12 @@ abbrev pub AreFound : State → List Key → List Found → Type 0
 AreFound s ks fs = EachAt (λ i f. IsFoundAs s ks (key_in ks i) f) fs
 
 -- the record says how its key is done, with places among these keys for edges
-pub record IsRecordOf (s : State) (ks : List Key) (r : RecordValue) : Type 0 where
+pub record IsDoneRecord (s : State) (ks : List Key) (r : RecordValue) : Type 0 where
   pub done : s.at r.key ≡ Done r.value (map (key_in ks) r.edges) r.mark
   pub inside : AllByRecursion (λ e. e < length ks) r.edges
   pub kept : IsRecord r
 
 -- the records of these keys, in their order
-pub record AreRecordsOf (s : State) (ks : List Key) (rs : List RecordValue) : Type 0 where
+pub record AreDoneRecords (s : State) (ks : List Key) (rs : List RecordValue) : Type 0 where
   pub keys : map (λ r. r.key) rs ≡ ks
-  pub each : AllByRecursion (IsRecordOf s ks) rs
+  pub each : AllByRecursion (IsDoneRecord s ks) rs

@@ -7,7 +7,7 @@ ghost use Rattle.graph_rules.specs.Pasts.{IsGraph};
 ghost use Rattle.graph_rules.specs.Steps.{IsDone};
 ghost use Rattle.graph_rules.specs.Sound.{IsInOrder};
 ghost use Rattle.key_states.specs.Closing.{IsClosing, IsFull};
-ghost use Rattle.key_states.specs.Nodes.{status_at, state_of_nodes, AreInputs};
+ghost use Rattle.key_states.specs.Nodes.{status_at, state_of_nodes, AreDoneInputs};
 ghost use Rattle.key_states.specs.Reached.{AreReached};
 ghost use Rattle.key_states.specs.Rows.{AreRowsOf, keys_of};
 
@@ -15,7 +15,7 @@ use crate::edge_keys::EdgeKeys;
 use crate::node_map::NodeMap;
 use crate::reaching::{Found, reach};
 use crate::records::records_of;
-use crate::rows::{Row, rows_of};
+use crate::rows::{KeyRow, rows_of};
 use item_ids::ranks_in_order;
 use project_inputs::Inputs;
 use session_file::digest;
@@ -31,7 +31,7 @@ pub fn session_of(
     inputs: &Inputs,
     nodes: &NodeMap,
 ) -> Result<Session, AllocError>
-    requires inputs { AreInputs inputs.now nodes.now }
+    requires inputs { AreDoneInputs inputs.now nodes.now }
     requires room { ¬ IsFull (session_in past.now) }
     requires order { IsInOrder (state_of_nodes inputs.now nodes.now false) }
     requires answer { IsDone (status_at inputs.now nodes.now Answer) }
@@ -52,9 +52,9 @@ fn rows_found<'a>(
     inputs: &'a Inputs,
     nodes: &'a NodeMap,
     none: &'a EdgeKeys,
-) -> Result<(Vec<Row>, Vec<Found<'a>>), AllocError>
+) -> Result<(Vec<KeyRow>, Vec<Found<'a>>), AllocError>
     requires none { none.now ≡ [] }
-    requires inputs { AreInputs inputs.now nodes.now }
+    requires inputs { AreDoneInputs inputs.now nodes.now }
     requires order { IsInOrder (state_of_nodes inputs.now nodes.now false) }
     requires answer { IsDone (status_at inputs.now nodes.now Answer) }
     ensures rows { IfOk result (λ both. AreRowsOf (state_of_nodes inputs.now nodes.now false)
@@ -79,7 +79,7 @@ fn number_behind(past: &Option<Arc<Session>>) -> u32
 }
 
 /// The link of the session after the previous one.
-fn link_behind(past: &Option<Arc<Session>>) -> [u8; 32]
+pub fn link_behind(past: &Option<Arc<Session>>) -> [u8; 32]
     ensures { result ≡ next_link (session_in past.now) }
 {
     match past {

@@ -9,7 +9,7 @@ mod reaching;
 mod records;
 mod rows;
 
-pub use closing::{check_past, session_of};
+pub use closing::{check_past, link_behind, session_of};
 pub use edge_keys::EdgeKeys;
 pub use node_map::NodeMap;
-pub use nodes::{Known, Standing, find_claimed, find_running, known_of, result_of};
+pub use nodes::{KeyState, Standing, find_claimed, find_running, key_state, result_of};

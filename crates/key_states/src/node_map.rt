@@ -2,11 +2,11 @@
 ghost use Rattle.std.specs.Prelude.{◌≡◌, ◌↔◌, ◌==◌, ◌<◌, [], IfSome, IfNone, IfOk, IsTrue, OnOk, OnErr, filter, length, not, if◌then◌else◌};
 ghost use Rattle.std.specs.List.{AllByRecursion};
 ghost use Rattle.item_ids.specs.declared.key.Key.{Key as KeyValue};
+ghost use Rattle.item_ids.specs.Inputs.{rank};
 ghost use Rattle.graph_rules.specs.Keys.{same_key};
-ghost use Rattle.recorder.specs.Backed.{rank};
 ghost use Rattle.graph_rules.specs.Steps.{Unknown};
 ghost use Rattle.key_states.specs.Closing.{IsQuiet};
-ghost use Rattle.key_states.specs.Nodes.{status_of, status_in, AreOpened, KeysStandOnce, IsFirst, AllAbove};
+ghost use Rattle.key_states.specs.Nodes.{status_of, status_in, AreOpened, KeysStandOnce, IsFirstNode, AllAbove};
 ghost use Rattle.key_states.specs.PendingNodes.{ArePending, IsAboveAt, IsPendingAt};
 ghost use Rattle.key_states.specs.Reached.{AllQuiet};
 
@@ -115,7 +115,7 @@ impl NodeMap {
     /// The place of a key and how it stands, or `None` for a key that the map lacks.
     pub fn find(&self, key: &Key) -> Option<(usize, &Standing)>
         ensures none { IfNone result (status_in self.now key.now ≡ Unknown) }
-        ensures first { IfSome result (λ r. IsFirst self.now key.now r.0) }
+        ensures first { IfSome result (λ r. IsFirstNode self.now key.now r.0) }
         ensures within { IfSome result (λ r. r.0 < length self.now) }
         ensures stands { IfSome result (λ r. status_in self.now key.now ≡ status_of r.1.now) }
     {
@@ -143,7 +143,7 @@ impl NodeMap {
     pub fn put(&mut self, at: usize, standing: Standing)
         requires place { at < length self.old }
         requires pending { ¬ IsQuiet (status_of standing) → IsPendingAt self.old at }
-        ensures written { (q k : KeyValue) → IsFirst self.old q at → status_in self.new k
+        ensures written { (q k : KeyValue) → IsFirstNode self.old q at → status_in self.new k
             ≡ (if same_key q k then status_of standing else status_in self.old k) }
         ensures apart { KeysStandOnce self.old → KeysStandOnce self.new }
     {
@@ -206,7 +206,7 @@ fn put_standing(
     requires kept { ¬ IsQuiet (status_of standing) → IsPendingAt nodes.old.entries at }
     requires pending { ArePending nodes.old.entries pending.old.items }
     ensures pending { ArePending nodes.new.entries pending.new.items }
-    ensures written { (q k : KeyValue) → IsFirst nodes.old.entries q at
+    ensures written { (q k : KeyValue) → IsFirstNode nodes.old.entries q at
         → status_in nodes.new.entries k
         ≡ (if same_key q k then status_of standing else status_in nodes.old.entries k) }
     ensures apart { KeysStandOnce nodes.old.entries → KeysStandOnce nodes.new.entries }

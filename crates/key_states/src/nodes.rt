@@ -3,9 +3,9 @@ ghost use Rattle.std.specs.Prelude.{◌≡◌, ◌↔◌, ◌<◌, [], length, I
 ghost use Rattle.std.specs.Arc.{arc_value};
 ghost use Rattle.graph_rules.specs.Steps.{Claimed, Running, Done, IsHeldBy, IsDone, IsDoneWith, IsNotDone, at_opening};
 ghost use Rattle.graph_rules.specs.Keys.{input_of};
-ghost use Rattle.key_states.specs.Nodes.{status_of, status_in, status_at, AreInputs, IsFirst};
+ghost use Rattle.key_states.specs.Nodes.{status_of, status_in, status_at, AreDoneInputs, IsFirstNode};
 ghost use Rattle.key_states.specs.Closing.{IsQuiet};
-ghost use Rattle.key_states.specs.Knowing.{IsKnown};
+ghost use Rattle.key_states.specs.KeyStates.{IsKeyState};
 
 use crate::edge_keys::EdgeKeys;
 use crate::node_map::NodeMap;
@@ -41,9 +41,9 @@ pub fn is_held_by(standing: &Standing, w: u32) -> bool
     }
 }
 
-/// What is known of a key.
+/// How a key stands, as callers see it.
 #[derive(Clone, Copy)]
-pub enum Known<'a> {
+pub enum KeyState<'a> {
     /// It is done, with this result.
     Done(&'a Arc<Sealed>),
     /// A worker has claimed it or runs it.
@@ -52,35 +52,35 @@ pub enum Known<'a> {
     Unknown,
 }
 
-/// What is known of a key.
-pub fn known_of<'a>(inputs: &'a Inputs, nodes: &'a NodeMap, key: &Key) -> Known<'a>
-    requires { AreInputs inputs.now nodes.now }
-    ensures { IsKnown inputs.now nodes.now key.now result }
+/// How a key stands, inputs included.
+pub fn key_state<'a>(inputs: &'a Inputs, nodes: &'a NodeMap, key: &Key) -> KeyState<'a>
+    requires { AreDoneInputs inputs.now nodes.now }
+    ensures { IsKeyState inputs.now nodes.now key.now result }
 {
     let Some((_, standing)) = nodes.find(key) else {
         return match inputs.get(key) {
-            Some(sealed) => Known::Done(sealed),
-            None => Known::Unknown,
+            Some(sealed) => KeyState::Done(sealed),
+            None => KeyState::Unknown,
         };
     };
     match standing {
-        Standing::Done(sealed, _, _) => Known::Done(sealed),
-        Standing::Claimed(_) => Known::Pending,
-        Standing::Running(_) => Known::Pending,
+        Standing::Done(sealed, _, _) => KeyState::Done(sealed),
+        Standing::Claimed(_) => KeyState::Pending,
+        Standing::Running(_) => KeyState::Pending,
     }
 }
 
 /// The result of a key that is done.
 pub fn result_of<'a>(inputs: &'a Inputs, nodes: &'a NodeMap, key: &Key) -> Option<&'a Arc<Sealed>>
-    requires { AreInputs inputs.now nodes.now }
+    requires { AreDoneInputs inputs.now nodes.now }
     ensures none { IfNone result (IsNotDone (status_at inputs.now nodes.now key.now)) }
     ensures some { IfSome result (λ a. IsDoneWith (arc_value a.now)
         (status_at inputs.now nodes.now key.now)) }
 {
-    match known_of(inputs, nodes, key) {
-        Known::Done(sealed) => Some(sealed),
-        Known::Pending => None,
-        Known::Unknown => None,
+    match key_state(inputs, nodes, key) {
+        KeyState::Done(sealed) => Some(sealed),
+        KeyState::Pending => None,
+        KeyState::Unknown => None,
     }
 }
 
@@ -100,7 +100,7 @@ pub fn entry_of<'a>(
     key: &Key,
 ) -> Entry<'a>
     requires none { none.now ≡ [] }
-    requires inputs { AreInputs inputs.now nodes.now }
+    requires inputs { AreDoneInputs inputs.now nodes.now }
     requires done { IsDone (status_at inputs.now nodes.now key.now) }
     ensures { status_at inputs.now nodes.now key.now
         ≡ Done (arc_value result.sealed.now) result.edges.now result.mark }
@@ -150,7 +150,7 @@ pub fn is_quiet(standing: &Standing) -> bool
 /// The place of a key, if the worker has claimed it.
 pub fn find_claimed(nodes: &NodeMap, w: u32, key: &Key) -> Option<usize>
     ensures none { IfNone result (status_in nodes.now key.now ≡ Claimed w → ⊥) }
-    ensures some { IfSome result (λ i. IsFirst nodes.now key.now i
+    ensures some { IfSome result (λ i. IsFirstNode nodes.now key.now i
         × (i < length nodes.now)) }
     ensures claimed { IfSome result (λ _. status_in nodes.now key.now ≡ Claimed w) }
 {
@@ -175,7 +175,7 @@ fn is_claimed(standing: &Standing, w: u32) -> bool
 /// The place of a key, if the worker runs it.
 pub fn find_running(nodes: &NodeMap, w: u32, key: &Key) -> Option<usize>
     ensures none { IfNone result (status_in nodes.now key.now ≡ Running w → ⊥) }
-    ensures some { IfSome result (λ i. IsFirst nodes.now key.now i
+    ensures some { IfSome result (λ i. IsFirstNode nodes.now key.now i
         × (i < length nodes.now)) }
     ensures running { IfSome result (λ _. status_in nodes.now key.now ≡ Running w) }
 {

@@ -4,8 +4,8 @@ ghost use Rattle.std.specs.List.{AllByRecursion};
 ghost use Rattle.item_ids.specs.declared.key.Key.TheVariants.{Answer};
 ghost use Rattle.graph_rules.specs.Steps.{IsDone};
 ghost use Rattle.graph_rules.specs.Sound.{IsInOrder};
-ghost use Rattle.key_states.specs.Nodes.{status_at, state_of_nodes, AreInputs};
-ghost use Rattle.key_states.specs.Reached.{key_in, AreRoots, AreReached, AreFound, Adds};
+ghost use Rattle.key_states.specs.Nodes.{status_at, state_of_nodes, AreDoneInputs};
+ghost use Rattle.key_states.specs.Reached.{key_in, AreRoots, AreReached, AreFound, AddsKeys};
 
 use crate::edge_keys::EdgeKeys;
 use crate::node_map::NodeMap;
@@ -34,7 +34,7 @@ pub fn reach<'a>(
     none: &'a EdgeKeys,
 ) -> Result<(IndexSet<Key>, Vec<Found<'a>>), AllocError>
     requires none { none.now ≡ [] }
-    requires inputs { AreInputs inputs.now nodes.now }
+    requires inputs { AreDoneInputs inputs.now nodes.now }
     requires order { IsInOrder (state_of_nodes inputs.now nodes.now false) }
     requires answer { IsDone (status_at inputs.now nodes.now Answer) }
     ensures reached { IfOk result (λ both. AreReached inputs.now
@@ -59,7 +59,7 @@ fn spread<'a>(
     found: &mut Vec<Found<'a>>,
 ) -> Result<(), AllocError>
     requires none { none.now ≡ [] }
-    requires inputs { AreInputs inputs.now nodes.now }
+    requires inputs { AreDoneInputs inputs.now nodes.now }
     requires order { IsInOrder (state_of_nodes inputs.now nodes.now false) }
     requires answer { IsDone (status_at inputs.now nodes.now Answer) }
     requires roots { AreRoots inputs.now keys.old.keys }
@@ -98,7 +98,7 @@ fn first_keys(alloc: Global, inputs: &Inputs, room: usize) -> Result<IndexSet<Ke
 
 /// These keys, in a set that has room for so many.
 fn set_of(alloc: Global, first: &EdgeKeys, room: usize) -> Result<IndexSet<Key>, AllocError>
-    ensures { IfOk result (λ set. Adds [] first.now set.keys) }
+    ensures { IfOk result (λ set. AddsKeys [] first.now set.keys) }
 {
     let mut keys = IndexSet::with_capacity(alloc, room)?;
     add(alloc, &mut keys, first)?;
@@ -116,7 +116,7 @@ fn roots(alloc: Global, inputs: &Inputs) -> Result<Vec<Key>, AllocError>
 
 /// Adds the edges that the set doesn't have yet, and tells the places of all.
 fn add(alloc: Global, keys: &mut IndexSet<Key>, edges: &EdgeKeys) -> Result<Vec<usize>, AllocError>
-    ensures adds { OnOk result (Adds keys.old.keys edges.now keys.new.keys) }
+    ensures adds { OnOk result (AddsKeys keys.old.keys edges.now keys.new.keys) }
     ensures same { IfOk result (λ v. map (key_in keys.new.keys) v.items ≡ edges.now) }
     ensures inside { IfOk result (λ v. AllByRecursion (λ e. e < length keys.new.keys) v.items) }
 {
@@ -130,7 +130,7 @@ fn add(alloc: Global, keys: &mut IndexSet<Key>, edges: &EdgeKeys) -> Result<Vec<
 
 /// Adds a key, unless the set has it already, and tells its place.
 fn add_key(alloc: Global, keys: &mut IndexSet<Key>, key: &Key) -> Result<usize, AllocError>
-    ensures adds { OnOk result (Adds keys.old.keys (key.now ∷ []) keys.new.keys) }
+    ensures adds { OnOk result (AddsKeys keys.old.keys (key.now ∷ []) keys.new.keys) }
     ensures same { IfOk result (λ at. key_in keys.new.keys at ≡ key.now) }
     ensures inside { IfOk result (λ at. at < length keys.new.keys) }
 {

@@ -4,11 +4,11 @@ ghost use Rattle.std.specs.List.{AllByRecursion};
 ghost use Rattle.std.specs.Arc.{arc_value};
 ghost use Rattle.sessions.specs.Sessions.{IsRecord};
 ghost use Rattle.graph_rules.specs.Steps.{State};
-ghost use Rattle.key_states.specs.Reached.{AreRecordsOf};
+ghost use Rattle.key_states.specs.Reached.{AreDoneRecords};
 ghost use Rattle.key_states.specs.Rows.{AreRowsOf, AreWithin, keys_of, rank_in};
 
 use crate::reaching::Found;
-use crate::rows::{Row, ranks_of};
+use crate::rows::{KeyRow, ranks_of};
 use item_ids::Key;
 use sessions::{Record, check_kept};
 use std::alloc::{AllocError, Global};
@@ -17,12 +17,12 @@ use std::sync::Arc;
 /// The records of these rows, by how their keys were found.
 pub fn records_of(
     alloc: Global,
-    rows: &[Row],
+    rows: &[KeyRow],
     found: &[Found<'_>],
 ) -> Result<Vec<Record>, AllocError>
     requires { AreWithin rows.now found.now }
     ensures { (s : State) → AreRowsOf s rows.now found.now
-        → IfOk result (λ records. AreRecordsOf s (keys_of rows.now) records.items) }
+        → IfOk result (λ records. AreDoneRecords s (keys_of rows.now) records.items) }
 {
     let ranks = ranks_of(alloc, rows)?;
     let mut records = Vec::with_capacity(alloc, rows.len())?;

@@ -13,19 +13,19 @@ use std::alloc::{AllocError, Global};
 
 /// A key, and the place where it was found.
 #[derive(PartialEq, Eq, PartialOrd, Ord)]
-pub struct Row {
+pub struct KeyRow {
     pub key: Key,
     pub at: usize,
 }
 
-impl Drop for Row {
+impl Drop for KeyRow {
     fn drop(self) {
-        let Row { key: _, at: _ } = self;
+        let KeyRow { key: _, at: _ } = self;
     }
 }
 
 /// These keys with their places, in the order of the keys.
-pub fn rows_of(alloc: Global, keys: &IndexSet<Key>) -> Result<Vec<Row>, AllocError>
+pub fn rows_of(alloc: Global, keys: &IndexSet<Key>) -> Result<Vec<KeyRow>, AllocError>
     ensures { IfOk result (λ rows. AreOrdered keys.now.keys rows.items) }
 {
     let mut rows = found_rows(alloc, keys)?;
@@ -34,7 +34,7 @@ pub fn rows_of(alloc: Global, keys: &IndexSet<Key>) -> Result<Vec<Row>, AllocErr
 }
 
 /// These keys with their places.
-fn found_rows(alloc: Global, keys: &IndexSet<Key>) -> Result<Vec<Row>, AllocError>
+fn found_rows(alloc: Global, keys: &IndexSet<Key>) -> Result<Vec<KeyRow>, AllocError>
     ensures keys { IfOk result (λ rows. keys_of rows.items ≡ keys.now.keys) }
     ensures places { IfOk result (λ rows. EachAt (λ i r. r.at ≡ i) rows.items) }
     ensures apart { IfOk result (λ rows. IsDistinct (eq_by_cmp key_cmp) (keys_of rows.items)) }
@@ -48,17 +48,17 @@ fn found_rows(alloc: Global, keys: &IndexSet<Key>) -> Result<Vec<Row>, AllocErro
 }
 
 /// The row of a key that was found at this place.
-fn row_of(alloc: Global, key: &Key, at: usize) -> Result<Row, AllocError>
+fn row_of(alloc: Global, key: &Key, at: usize) -> Result<KeyRow, AllocError>
     ensures key { IfOk result (λ row. row.key ≡ key.now) }
     ensures at { IfOk result (λ row. row.at ≡ at) }
 {
     let key = key.copy(alloc)?;
-    Ok(Row { key, at })
+    Ok(KeyRow { key, at })
 }
 
 /// Sorts rows by their keys. Those of one kind are mostly found in order, so that the sort by kinds, which compares
 /// numbers alone, leaves little to compare.
-fn sort(alloc: Global, rows: &mut [Row]) -> Result<(), AllocError>
+fn sort(alloc: Global, rows: &mut [KeyRow]) -> Result<(), AllocError>
     ensures same { OnOk result (IsPermutation rows.old rows.new) }
     ensures count { length rows.new ≡ length rows.old }
     ensures sorted { OnOk result (IsSorted key_cmp (keys_of rows.new)) }
@@ -69,7 +69,7 @@ fn sort(alloc: Global, rows: &mut [Row]) -> Result<(), AllocError>
 }
 
 /// The rank of each place: the index of its row.
-pub fn ranks_of(alloc: Global, rows: &[Row]) -> Result<Vec<usize>, AllocError>
+pub fn ranks_of(alloc: Global, rows: &[KeyRow]) -> Result<Vec<usize>, AllocError>
     requires { EachAt (λ i r. r.at < length rows.now) rows.now }
     ensures { IfOk result (λ ranks. AreRanks rows.now ranks.items) }
 {

@@ -1,4 +1,4 @@
--- The rule of a list, and what a step that adds to it tells.
+-- The rule of a list, and what a step that adds to it shows.
 use Rattle.std.specs.Prelude.{ℕ, ◌≡◌, ◌==◌, true, List, [], ◌∷◌, ◌++◌, length, MatchBool}
 use Rattle.logbook.specs.Pages.{Cell, Step, View, Book, Named}
 

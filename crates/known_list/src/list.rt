@@ -8,7 +8,7 @@ use crate::rule::{Adding, Law, Nothing};
 use logbook::{Offer, Plain, Seen, Start, Word};
 use std::marker::{Model, PhantomData};
 
-const MOST: u64 = 1 << 62;
+const MOST_ENTRIES: u64 = 1 << 62;
 
 /// A list that was just opened, and has no name yet.
 #[derive(Drop)]
@@ -108,13 +108,13 @@ impl<J: ListNaming, E> Known<J, E> {
         other.entries <= self.entries
     }
 
-    /// Adds an entry, where this is the whole list, and tells whether it did. Else nothing changes.
+    /// Adds an entry, where this is the whole list, and says whether it did. Else nothing changes.
     pub fn add<X, M: Plain<X, E, u64>>(&mut self, head: &Head<J, E>, about: &X) -> bool
         requires unmade { M.state about.now ≡ None }
         ensures { MatchBool result (self.new ≡ self.old ++ M.ask about.now ∷ []) (self.new ≡ self.old) }
     {
         let entries = self.entries;
-        if entries >= MOST {
+        if entries >= MOST_ENTRIES {
             return false;
         }
         let mut seen = self.seen.again();

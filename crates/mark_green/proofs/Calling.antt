@@ -1,14 +1,16 @@
 -- The effect of calls, by their answers.
-use Rattle.std.proofs.Common.{◌≡◌, ℕ, zero, suc, ◌<◌, List, [], ◌∷◌, refl, sym, ap, ◌∙◌, subst, Bool, true, false, Option, Some, None, arith, inl, inr}
+use Rattle.std.proofs.Common.{◌≡◌, ℕ, zero, suc, ◌<◌, List, [], ◌∷◌, refl, sym, ap, ◌∙◌, subst, true, false, Option, Some, None, arith, inl, inr}
 use Rattle.std.specs.Prelude.{Result, Ok, Err, if◌then◌else◌, option_map}
 use Rattle.std.specs.declared.alloc.Global.{Global}
 use Rattle.std.specs.declared.sync.Arc.{Arc}
 use Rattle.std.specs.Arc.{arc_value}
+use Rattle.std.proofs.lemmas.Bool.{both_ways}
 use Rattle.item_ids.specs.declared.key.Key.{Key}
 use Rattle.item_ids.specs.Keys.{kind_of}
+use Rattle.item_ids.specs.Inputs.{rank}
 use Rattle.result_bytes.specs.declared.value.Value.{Value}
 use Rattle.sessions.specs.declared.mark.Mark.TheVariants.{Executed}
-use Rattle.recorder.specs.Backed.{ReadValue, rank, keys}
+use Rattle.recorder.specs.Backed.{ReadValue, keys}
 use Rattle.recorder.specs.Runs.{OutcomeValue}
 use Rattle.sessions.specs.Sessions.{SessionValue, Entry, past_entry}
 use Rattle.graph_rules.specs.Settings.{has_kind, kept}
@@ -23,12 +25,9 @@ use Rattle.graph_rules.proofs.SettingRules.{kept_none, kept_across}
 use Rattle.job_table.proofs.CallRules.{walk_none}
 use Rattle.mark_green.specs.declared.fault.Fault.{Fault}
 use Rattle.mark_green.specs.declared.fault.Fault.TheVariants as fault
-use Rattle.mark_green.specs.Leaves.{Stops, Stays, GivesUp, IsOthers, HasStatus}
-use Rattle.mark_green.specs.Ensures.{EnsureGives, IsGivenUp, WorkGives, IsFaultOf, IsOfPast, IsOfEdges}
+use Rattle.mark_green.specs.Leaves.{Stops, Stays, WorkerGivesUp, IsOthers, HasStatus}
+use Rattle.mark_green.specs.Ensures.{EnsureGives, IsGivenUp, WorkGives, IsWorkFault, IsOfPast, IsOfEdges}
 use Rattle.mark_green.proofs.GoingOn.{on_none, on_one, on_then, stops_then, stays_up, stays_same, Changes, changes_by, changed_work, changed_others, changed_leaves, changed_stays, changed_done, changed_stands, leaves_none}
-
-not_both : (b : Bool) → b ≡ true → b ≡ false → ⊥
-not_both b t f = cc
 
 self_below : (n : ℕ) → n < n → ⊥
 self_below n lt = omega arith
@@ -41,15 +40,15 @@ failed_at t w may = record {
   failed = ap (λ (s : State). s.failed) (after_all_append (past_of t) (opening t.project) t.history (Fail w ∷ []));
 }
 
-failed_gives_up : (t : TableValue) (w : ℕ) → IsStep t (Fail w) → GivesUp t (adds t (Fail w))
+failed_gives_up : (t : TableValue) (w : ℕ) → IsStep t (Fail w) → WorkerGivesUp t (adds t (Fail w))
 failed_gives_up t w may = record {
   stops = failed_at t w may;
   same = λ k. ap (λ (s : State). s.at k) (after_all_append (past_of t) (opening t.project) t.history (Fail w ∷ []));
 }
 
-pub fail_stops : (w : ℕ) (r : Result (Unit {0}) TableFault) (t u : TableValue) → FailGives t w r u → GivesUp t u
-fail_stops w (Ok x) t u f = subst (λ (v : TableValue). GivesUp t v) (sym f.1) (failed_gives_up t w f.0)
-fail_stops w (Err table.Failed) t u f = subst (λ (v : TableValue). GivesUp t v) (sym f.1) (record { stops = record { goes_on = on_none t; failed = f.0 }; same = λ k. refl })
+pub fail_stops : (w : ℕ) (r : Result (Unit {0}) TableFault) (t u : TableValue) → FailGives t w r u → WorkerGivesUp t u
+fail_stops w (Ok x) t u f = subst (λ (v : TableValue). WorkerGivesUp t v) (sym f.1) (failed_gives_up t w f.0)
+fail_stops w (Err table.Failed) t u f = subst (λ (v : TableValue). WorkerGivesUp t v) (sym f.1) (record { stops = record { goes_on = on_none t; failed = f.0 }; same = λ k. refl })
 fail_stops w (Err table.NotYours) t u f = absurd f
 fail_stops w (Err table.OutOfRank) t u f = absurd f
 fail_stops w (Err (table.EdgeOpen i)) t u f = absurd f
@@ -118,13 +117,13 @@ pub ask_busy : (w : ℕ) (q : Key) (t u : TableValue) → AskGives t w q (Ok ask
 ask_busy w q t u a = subst (λ (x : TableValue). EnsureGives t w q (Err fault.Busy) x) (sym a.3) (on_none t, stays_same t t refl, a.0.0, ask_others w q t u a)
 
 -- where a call changed nothing
-stopped_at : (t u v : TableValue) → u ≡ t → GivesUp u v → Stops t v
+stopped_at : (t u v : TableValue) → u ≡ t → WorkerGivesUp u v → Stops t v
 stopped_at t u v e s = subst (λ (x : TableValue). Stops x v) e s.stops
 
-stayed_at : (t u v : TableValue) → u ≡ t → GivesUp u v → Stays t v
+stayed_at : (t u v : TableValue) → u ≡ t → WorkerGivesUp u v → Stays t v
 stayed_at t u v e s = stays_up t u v (stays_same t u e) s
 
-pub ask_refused : (w : ℕ) (q : Key) (f : TableFault) (g : Fault) → IsFaultOf f g → (t u v : TableValue) → AskGives t w q (Err f) u → GivesUp u v → EnsureGives t w q (Err g) v
+pub ask_refused : (w : ℕ) (q : Key) (f : TableFault) (g : Fault) → IsWorkFault f g → (t u v : TableValue) → AskGives t w q (Err f) u → WorkerGivesUp u v → EnsureGives t w q (Err g) v
 ask_refused w q table.OutOfMemory g is t u v a s = subst (λ (x : Fault). EnsureGives t w q (Err x) v) (sym is) (stopped_at t u v a.2 s, stayed_at t u v a.2 s, a.0)
 ask_refused w q table.OutOfRank g is t u v a s = subst (λ (x : Fault). EnsureGives t w q (Err x) v) (sym is) (stopped_at t u v a.2 s, stayed_at t u v a.2 s, inr a.1)
 ask_refused w q table.NotYours g is t u v a s = absurd a
@@ -138,7 +137,7 @@ ask_refused w q table.OtherProfile g is t u v a s = absurd a
 ask_refused w q table.Failed g is t u v a s = absurd a
 
 -- out of memory in the midst of work
-pub memory_gives : (t u v : TableValue) (w : ℕ) (q : Key) (g : Fault) → g ≡ fault.OutOfMemory → u ≡ t → GivesUp u v → WorkGives t w q (Err g) v
+pub memory_gives : (t u v : TableValue) (w : ℕ) (q : Key) (g : Fault) → g ≡ fault.OutOfMemory → u ≡ t → WorkerGivesUp u v → WorkGives t w q (Err g) v
 memory_gives t u v w q g is e s = subst (λ (x : Fault). WorkGives t w q (Err x) v) (sym is) (stopped_at t u v e s, λ k a n h. stayed_at t u v e s k a h)
 
 -- ---- mark
@@ -158,9 +157,9 @@ walk_open o i s n = let e : Some AllUnchanged ≡ Some (OpenAt i) = sym s ∙ n 
 walk_changed : (o : Option Walk) (i : ℕ) → o ≡ Some AllUnchanged → o ≡ Some (ChangedAt i) → ⊥
 walk_changed o i s n = let e : Some AllUnchanged ≡ Some (ChangedAt i) = sym s ∙ n in cc
 
-pub mark_refused : (w : ℕ) (q : Key) (f : TableFault) (g : Fault) → IsFaultOf f g → (t u v : TableValue) → HasStatus (Claimed w) w q t → walk_in t q ≡ Some AllUnchanged → MarkGives t w q (Err f) u → GivesUp u v → WorkGives t w q (Err g) v
+pub mark_refused : (w : ℕ) (q : Key) (f : TableFault) (g : Fault) → IsWorkFault f g → (t u v : TableValue) → HasStatus (Claimed w) w q t → walk_in t q ≡ Some AllUnchanged → MarkGives t w q (Err f) u → WorkerGivesUp u v → WorkGives t w q (Err g) v
 mark_refused w q table.OutOfMemory g is t u v st all m s = memory_gives t u v w q g is m.1 s
-mark_refused w q table.Failed g is t u v st all m s = absurd (not_both (state_of t).failed m.0 st.failed)
+mark_refused w q table.Failed g is t u v st all m s = absurd (both_ways (state_of t).failed st.failed m.0)
 mark_refused w q table.NotYours g is t u v st all m s = absurd (m.1 st.at)
 mark_refused w q table.NotInPast g is t u v st all m s = absurd (some_none (walk_in t q) AllUnchanged all (walk_none (past_of t) (state_of t) q (kept_none (past_of t) q m.1)))
 mark_refused w q table.AcrossProfiles g is t u v st all m s = absurd (some_none (walk_in t q) AllUnchanged all (walk_none (past_of t) (state_of t) q (kept_across (past_of t) q m.2)))
@@ -212,9 +211,9 @@ try_edges w q table.NothingChanged of t u m = absurd of
 try_edges w q (table.StaleRead i) of t u m = absurd of
 try_edges w q table.OtherProfile of t u m = absurd of
 
-pub try_refused : (w : ℕ) (q : Key) (f : TableFault) (g : Fault) → (IsOfPast f → ⊥) → (IsOfEdges f → ⊥) → IsFaultOf f g → (t u v : TableValue) → MarkGives t w q (Err f) u → GivesUp u v → HasStatus (Claimed w) w q t → WorkGives t w q (Err g) v
+pub try_refused : (w : ℕ) (q : Key) (f : TableFault) (g : Fault) → (IsOfPast f → ⊥) → (IsOfEdges f → ⊥) → IsWorkFault f g → (t u v : TableValue) → MarkGives t w q (Err f) u → WorkerGivesUp u v → HasStatus (Claimed w) w q t → WorkGives t w q (Err g) v
 try_refused w q table.OutOfMemory g no_past no_edges is t u v m s st = memory_gives t u v w q g is m.1 s
-try_refused w q table.Failed g no_past no_edges is t u v m s st = absurd (not_both (state_of t).failed m.0 st.failed)
+try_refused w q table.Failed g no_past no_edges is t u v m s st = absurd (both_ways (state_of t).failed st.failed m.0)
 try_refused w q table.NotYours g no_past no_edges is t u v m s st = absurd (m.1 st.at)
 try_refused w q table.NotInPast g no_past no_edges is t u v m s st = absurd (no_past tt)
 try_refused w q table.AcrossProfiles g no_past no_edges is t u v m s st = absurd (no_past tt)
@@ -253,9 +252,9 @@ may_open o i may e = let m : MayRun (Some (OpenAt i)) = subst MayRun e may in m
 may_unchanged : (o : Option Walk) → MayRun o → o ≡ Some AllUnchanged → ⊥
 may_unchanged o may e = let m : MayRun (Some AllUnchanged) = subst MayRun e may in m
 
-pub begin_refused : (w : ℕ) (q : Key) (f : TableFault) (g : Fault) → IsFaultOf f g → (t u v : TableValue) → HasStatus (Claimed w) w q t → MayRun (walk_in t q) → BeginGives t w q (Err f) u → GivesUp u v → WorkGives t w q (Err g) v
+pub begin_refused : (w : ℕ) (q : Key) (f : TableFault) (g : Fault) → IsWorkFault f g → (t u v : TableValue) → HasStatus (Claimed w) w q t → MayRun (walk_in t q) → BeginGives t w q (Err f) u → WorkerGivesUp u v → WorkGives t w q (Err g) v
 begin_refused w q table.OutOfMemory g is t u v st may b s = memory_gives t u v w q g is b.1 s
-begin_refused w q table.Failed g is t u v st may b s = absurd (not_both (state_of t).failed b.0 st.failed)
+begin_refused w q table.Failed g is t u v st may b s = absurd (both_ways (state_of t).failed st.failed b.0)
 begin_refused w q table.NotYours g is t u v st may b s = absurd (b.1 st.at)
 begin_refused w q (table.EdgeOpen i) g is t u v st may b s = absurd (may_open (walk_in t q) i may b.1)
 begin_refused w q table.NothingChanged g is t u v st may b s = absurd (may_unchanged (walk_in t q) may b.1)
@@ -285,9 +284,9 @@ not_stale s [] i h f = f
 not_stale s (r ∷ rs) zero h f = f h.0
 not_stale s (r ∷ rs) (suc i) h f = not_stale s rs i h.1 f.1
 
-pub finish_refused : (w : ℕ) (q : Key) (o : OutcomeValue) (f : TableFault) (g : Fault) → o.key ≡ q → IsFaultOf f g → (t u v : TableValue) → o.profile ≡ t.terms.profile → AreHeld (state_of t) o.told → HasStatus (Running w) w q t → FinishGives t w o (Err f) u → GivesUp u v → WorkGives t w q (Err g) v
+pub finish_refused : (w : ℕ) (q : Key) (o : OutcomeValue) (f : TableFault) (g : Fault) → o.key ≡ q → IsWorkFault f g → (t u v : TableValue) → o.profile ≡ t.terms.profile → AreHeld (state_of t) o.told → HasStatus (Running w) w q t → FinishGives t w o (Err f) u → WorkerGivesUp u v → WorkGives t w q (Err g) v
 finish_refused w q o table.OutOfMemory g key is t u v own held st b s = memory_gives t u v w q g is b.1 s
-finish_refused w q o table.Failed g key is t u v own held st b s = absurd (not_both (state_of t).failed b.0 st.failed)
+finish_refused w q o table.Failed g key is t u v own held st b s = absurd (both_ways (state_of t).failed st.failed b.0)
 finish_refused w q o table.NotYours g key is t u v own held st b s = absurd (b.1 (ap (state_of t).at key ∙ st.at))
 finish_refused w q o (table.StaleRead i) g key is t u v own held st b s = absurd (not_stale (state_of t) o.told i held b.2)
 finish_refused w q o table.OtherProfile g key is t u v own held st b s = absurd (b.1 own)
@@ -308,7 +307,7 @@ below_it x w q e t st lt = λ k h. elim (st.above k h) [
 
 pub edge_gives_up : (x : Status) (w : ℕ) (q e : Key) (f : Fault) (t u : TableValue) → HasStatus x w q t → rank e < rank q → EnsureGives t w e (Err f) u → IsGivenUp t w f u × Stays t u
 edge_gives_up x w q e fault.Stopped t u st lt h = elim h.2 [
-  | inl failed ↦ absurd (not_both (state_of t).failed failed st.failed)
+  | inl failed ↦ absurd (both_ways (state_of t).failed st.failed failed)
   | inr own ↦ absurd (own.not_above (below_it x w q e t st lt own.key own.held))
 ]
 edge_gives_up x w q e fault.OutOfMemory t u st lt h = (h.0, h.1)
@@ -319,23 +318,23 @@ edge_gives_up x w q e fault.Busy t u st lt h = ((h.0, h.2, h.3), h.1)
 pub mark_ok : (w : ℕ) (q : Key) (v : Arc Value Global) (t u : TableValue) → MarkGives t w q (Ok v) u → HasStatus (Claimed w) w q t → walk_in t q ≡ Some AllUnchanged → WorkGives t w q (Ok v) u
 mark_ok w q v t u m st all = mark_done w q v t u m
 
-pub mark_ended : (w : ℕ) (q : Key) (f : TableFault) (g : Fault) → IsFaultOf f g → (t u v : TableValue) → MarkGives t w q (Err f) u → GivesUp u v → HasStatus (Claimed w) w q t → walk_in t q ≡ Some AllUnchanged → WorkGives t w q (Err g) v
+pub mark_ended : (w : ℕ) (q : Key) (f : TableFault) (g : Fault) → IsWorkFault f g → (t u v : TableValue) → MarkGives t w q (Err f) u → WorkerGivesUp u v → HasStatus (Claimed w) w q t → walk_in t q ≡ Some AllUnchanged → WorkGives t w q (Err g) v
 mark_ended w q f g is t u v m s st all = mark_refused w q f g is t u v st all m s
 
 pub finish_ok : (w : ℕ) (q : Key) (a : Arc Value Global) (o p : OutcomeValue) (x : Unit {0}) → p ≡ o → o.key ≡ q → arc_value a ≡ o.value → (t u : TableValue) → FinishGives t w p (Ok x) u → HasStatus (Running w) w q t → AreHeld (state_of t) o.told → WorkGives t w q (Ok a) u
 finish_ok w q a o p x same key is t u f st held = finish_done w q a o x key is t u (subst (λ (y : OutcomeValue). FinishGives t w y (Ok x) u) same f)
 
-pub finish_ended : (w : ℕ) (q : Key) (o p : OutcomeValue) (f : TableFault) (g : Fault) → p ≡ o → o.key ≡ q → IsFaultOf f g → (t u v : TableValue) → o.profile ≡ t.terms.profile → FinishGives t w p (Err f) u → GivesUp u v → HasStatus (Running w) w q t → AreHeld (state_of t) o.told → WorkGives t w q (Err g) v
+pub finish_ended : (w : ℕ) (q : Key) (o p : OutcomeValue) (f : TableFault) (g : Fault) → p ≡ o → o.key ≡ q → IsWorkFault f g → (t u v : TableValue) → o.profile ≡ t.terms.profile → FinishGives t w p (Err f) u → WorkerGivesUp u v → HasStatus (Running w) w q t → AreHeld (state_of t) o.told → WorkGives t w q (Err g) v
 finish_ended w q o p f g same key is t u v own b s st held = finish_refused w q o f g key is t u v own held st (subst (λ (y : OutcomeValue). FinishGives t w y (Err f) u) same b) s
 
-pub stopped_early : (w : ℕ) (q : Key) (told : List ReadValue) (g : Fault) → g ≡ fault.OutOfMemory → (t v : TableValue) → GivesUp t v → HasStatus (Running w) w q t → AreHeld (state_of t) told → WorkGives t w q (Err g) v
+pub stopped_early : (w : ℕ) (q : Key) (told : List ReadValue) (g : Fault) → g ≡ fault.OutOfMemory → (t v : TableValue) → WorkerGivesUp t v → HasStatus (Running w) w q t → AreHeld (state_of t) told → WorkGives t w q (Err g) v
 stopped_early w q told g is t v s st held = memory_gives t t v w q g is refl s
 
-pub work_memory : (w : ℕ) (q : Key) (g : Fault) → g ≡ fault.OutOfMemory → (t v : TableValue) → GivesUp t v → HasStatus (Claimed w) w q t → WorkGives t w q (Err g) v
+pub work_memory : (w : ℕ) (q : Key) (g : Fault) → g ≡ fault.OutOfMemory → (t v : TableValue) → WorkerGivesUp t v → HasStatus (Claimed w) w q t → WorkGives t w q (Err g) v
 work_memory w q g is t v s st = memory_gives t t v w q g is refl s
 
 pub start_ok : (w : ℕ) (q : Key) (r : Result (Arc Value Global) Fault) (x : Unit {0}) (t u v : TableValue) → BeginGives t w q (Ok x) u → (HasStatus (Running w) w q u → WorkGives u w q r v) → HasStatus (Claimed w) w q t → MayRun (walk_in t q) → WorkGives t w q r v
 start_ok w q r x t u v b work st may = begin_work w q r x t u v st b work
 
-pub start_ended : (w : ℕ) (q : Key) (f : TableFault) (g : Fault) → IsFaultOf f g → (t u v : TableValue) → BeginGives t w q (Err f) u → GivesUp u v → HasStatus (Claimed w) w q t → MayRun (walk_in t q) → WorkGives t w q (Err g) v
+pub start_ended : (w : ℕ) (q : Key) (f : TableFault) (g : Fault) → IsWorkFault f g → (t u v : TableValue) → BeginGives t w q (Err f) u → WorkerGivesUp u v → HasStatus (Claimed w) w q t → MayRun (walk_in t q) → WorkGives t w q (Err g) v
 start_ended w q f g is t u v b s st may = begin_refused w q f g is t u v st may b s

@@ -6,8 +6,9 @@ use Rattle.std.specs.declared.alloc.Global.{Global}
 use Rattle.std.specs.declared.sync.Arc.{Arc}
 use Rattle.std.specs.Arc.{arc_value}
 use Rattle.item_ids.specs.declared.key.Key.{Key}
+use Rattle.item_ids.specs.Inputs.{rank}
 use Rattle.result_bytes.specs.declared.value.Value.{Value}
-use Rattle.recorder.specs.Backed.{ReadValue, rank}
+use Rattle.recorder.specs.Backed.{ReadValue}
 use Rattle.graph_rules.specs.Keys.{same_key}
 use Rattle.graph_rules.specs.Settings.{Setting}
 use Rattle.graph_rules.specs.Steps.{Status, Unknown, Claimed, Running, Done, State, Event, AreSteps, after, with_status, opening, IsHeldBy, IsDoneWith, AreHeld}
@@ -17,36 +18,36 @@ use Rattle.graph_rules.proofs.Keeping.{held_keeps}
 use Rattle.job_table.specs.Tables.{TableValue, past_of, state_of, IsStep, adds}
 use Rattle.mark_green.specs.declared.fault.Fault.{Fault}
 use Rattle.mark_green.specs.declared.fault.Fault.TheVariants as fault
-use Rattle.mark_green.specs.Leaves.{Knows, Tells, GoesOn, Stops, Stays, StaysBut, GivesUp, Leaves, LeavesBut, IsOthers, HasStatus}
+use Rattle.mark_green.specs.Leaves.{Knows, KnowsChange, GoesOn, Stops, Stays, StaysBut, WorkerGivesUp, LeavesClaims, LeavesBut, IsOthers, HasStatus}
 use Rattle.mark_green.specs.Ensures.{IsGivenUp, WorkGives}
 use Rattle.mark_green.specs.Moves.{state_on, keeps_on}
 
 -- ---- what is known of tables
 
-pub tells_map : (P Q : TableValue → TableValue → Type 0) → ((t u : TableValue) → P t u → Q t u) → (a b : Option TableValue) → Tells P a b → Tells Q a b
-tells_map P Q f None None h = tt
-tells_map P Q f None (Some u) h = h
-tells_map P Q f (Some t) None h = h
-tells_map P Q f (Some t) (Some u) h = f t u h
+pub change_map : (P Q : TableValue → TableValue → Type 0) → ((t u : TableValue) → P t u → Q t u) → (a b : Option TableValue) → KnowsChange P a b → KnowsChange Q a b
+change_map P Q f None None h = tt
+change_map P Q f None (Some u) h = h
+change_map P Q f (Some t) None h = h
+change_map P Q f (Some t) (Some u) h = f t u h
 
-pub tells_then : (P Q R : TableValue → TableValue → Type 0) → ((t u v : TableValue) → P t u → Q u v → R t v) → (a b c : Option TableValue) → Tells P a b → Tells Q b c → Tells R a c
-tells_then P Q R f None None None g h = tt
-tells_then P Q R f None None (Some v) g h = h
-tells_then P Q R f None (Some u) c g h = absurd g
-tells_then P Q R f (Some t) None c g h = absurd g
-tells_then P Q R f (Some t) (Some u) None g h = absurd h
-tells_then P Q R f (Some t) (Some u) (Some v) g h = f t u v g h
+pub change_then : (P Q R : TableValue → TableValue → Type 0) → ((t u v : TableValue) → P t u → Q u v → R t v) → (a b c : Option TableValue) → KnowsChange P a b → KnowsChange Q b c → KnowsChange R a c
+change_then P Q R f None None None g h = tt
+change_then P Q R f None None (Some v) g h = h
+change_then P Q R f None (Some u) c g h = absurd g
+change_then P Q R f (Some t) None c g h = absurd g
+change_then P Q R f (Some t) (Some u) None g h = absurd h
+change_then P Q R f (Some t) (Some u) (Some v) g h = f t u v g h
 
-pub tells_here : (P : TableValue → TableValue → Type 0) → ((t : TableValue) → P t t) → (a : Option TableValue) → Tells P a a
-tells_here P f None = tt
-tells_here P f (Some t) = f t
+pub change_here : (P : TableValue → TableValue → Type 0) → ((t : TableValue) → P t t) → (a : Option TableValue) → KnowsChange P a a
+change_here P f None = tt
+change_here P f (Some t) = f t
 
 -- with what is known of the table before
-pub tells_with : (K : TableValue → Type 0) (P Q : TableValue → TableValue → Type 0) → ((t u : TableValue) → K t → P t u → Q t u) → (a b : Option TableValue) → Knows K a → Tells P a b → Tells Q a b
-tells_with K P Q f None None k h = tt
-tells_with K P Q f None (Some u) k h = h
-tells_with K P Q f (Some t) None k h = h
-tells_with K P Q f (Some t) (Some u) k h = f t u k h
+pub change_with : (K : TableValue → Type 0) (P Q : TableValue → TableValue → Type 0) → ((t u : TableValue) → K t → P t u → Q t u) → (a b : Option TableValue) → Knows K a → KnowsChange P a b → KnowsChange Q a b
+change_with K P Q f None None k h = tt
+change_with K P Q f None (Some u) k h = h
+change_with K P Q f (Some t) None k h = h
+change_with K P Q f (Some t) (Some u) k h = f t u k h
 
 pub knows_map : (K L : TableValue → Type 0) → ((t : TableValue) → K t → L t) → (a : Option TableValue) → Knows K a → Knows L a
 knows_map K L f None k = tt
@@ -150,7 +151,7 @@ others_back t u w back o = record {
   holds = subst (λ (x : Status). IsHeldBy o.worker x) (back o.key o.worker o.holds o.other) o.holds;
 }
 
-pub stands_on : (x : Status) (w : ℕ) (q : Key) (t u : TableValue) → Leaves t u → HasStatus x w q t → HasStatus x w q u
+pub stands_on : (x : Status) (w : ℕ) (q : Key) (t u : TableValue) → LeavesClaims t u → HasStatus x w q t → HasStatus x w q u
 stands_on x w q t u l s = record {
   failed = l.failed ∙ s.failed;
   at = l.stays q w (subst (λ (y : Status). IsHeldBy w y) (sym s.at) s.mine) ∙ s.at;
@@ -158,10 +159,10 @@ stands_on x w q t u l s = record {
   above = λ k h. s.above k (subst (λ (y : Status). IsHeldBy w y) (l.held k w h) h);
 }
 
-pub leaves_none : (t : TableValue) → Leaves t t
+pub leaves_none : (t : TableValue) → LeavesClaims t t
 leaves_none t = record { goes_on = on_none t; failed = refl; stays = λ k w h. refl; held = λ k w h. refl }
 
-pub leaves_then : (t u v : TableValue) → Leaves t u → Leaves u v → Leaves t v
+pub leaves_then : (t u v : TableValue) → LeavesClaims t u → LeavesClaims u v → LeavesClaims t v
 leaves_then t u v l m = record {
   goes_on = on_then t u v l.goes_on m.goes_on;
   failed = m.failed ∙ l.failed;
@@ -181,19 +182,19 @@ pub stays_but_then : (q : Key) (t u v : TableValue) → Stays t u → StaysBut q
 stays_but_then q t u v s m = λ k w n h. let e = s k w h in m k w n (subst (λ (y : Status). IsHeldBy w y) (sym e) h) ∙ e
 
 -- what a worker had it has after it gave up, too
-pub stays_up : (t u v : TableValue) → Stays t u → GivesUp u v → Stays t v
+pub stays_up : (t u v : TableValue) → Stays t u → WorkerGivesUp u v → Stays t v
 stays_up t u v s g = λ k w h. g.same k ∙ s k w h
 
 pub stays_same : (t u : TableValue) → u ≡ t → Stays t u
 stays_same t u e = λ k w h. ap (λ (x : TableValue). (state_of x).at k) e
 
-leaves_given_up : (t u v : TableValue) (w : ℕ) (f : Fault) → Leaves t u → IsGivenUp u w f v → IsGivenUp t w f v
+leaves_given_up : (t u v : TableValue) (w : ℕ) (f : Fault) → LeavesClaims t u → IsGivenUp u w f v → IsGivenUp t w f v
 leaves_given_up t u v w f l h = gives_up_on t u v w f l.goes_on (others_back t u w (λ k a is n. l.held k a is)) h
 
-pub leaves_gives_up : (t u v : TableValue) (w : ℕ) (f : Fault) → Leaves t u → IsGivenUp u w f v × Stays u v → IsGivenUp t w f v × Stays t v
+pub leaves_gives_up : (t u v : TableValue) (w : ℕ) (f : Fault) → LeavesClaims t u → IsGivenUp u w f v × Stays u v → IsGivenUp t w f v × Stays t v
 leaves_gives_up t u v w f l h = (leaves_given_up t u v w f l h.0, stays_then t u v l.stays h.1)
 
-pub leaves_work : (t u v : TableValue) (w : ℕ) (q : Key) (r : Result (Arc Value Global) Fault) → Leaves t u → WorkGives u w q r v → WorkGives t w q r v
+pub leaves_work : (t u v : TableValue) (w : ℕ) (q : Key) (r : Result (Arc Value Global) Fault) → LeavesClaims t u → WorkGives u w q r v → WorkGives t w q r v
 leaves_work t u v w q (Ok a) l h = (
   record {
     goes_on = on_then t u v l.goes_on h.0.goes_on;
@@ -233,7 +234,7 @@ module _ (t u : TableValue) (w : ℕ) (q : Key) (x : Status) (c : Changes q x t 
       λ k b is. let n = was_q k b is in let e = c.other k n in m k b n (subst (λ (y : Status). IsHeldBy b y) (sym e) is) ∙ e
 
   -- a key that nobody had
-  pub changed_leaves : (v : TableValue) (a : Value) → (state_of t).at q ≡ Unknown → LeavesBut q u v → IsDoneWith a ((state_of v).at q) → Leaves t v
+  pub changed_leaves : (v : TableValue) (a : Value) → (state_of t).at q ≡ Unknown → LeavesBut q u v → IsDoneWith a ((state_of v).at q) → LeavesClaims t v
   changed_leaves v a was l d =
       let not_q : (k : Key) (b : ℕ) → IsHeldBy b ((state_of v).at k) → k ≡ q → ⊥ = λ k b is e. done_held a b ((state_of v).at q) d (subst (λ (y : Key). IsHeldBy b ((state_of v).at y)) e is) in
       let was_q : (k : Key) (b : ℕ) → IsHeldBy b ((state_of t).at k) → k ≡ q → ⊥ = λ k b is e. (let f : IsHeldBy b Unknown = subst (λ (y : Status). IsHeldBy b y) (ap (state_of t).at e ∙ was) is in f) in

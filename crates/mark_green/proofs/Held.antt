@@ -5,13 +5,14 @@ use Rattle.std.specs.Arc.{arc_value}
 use Rattle.std.specs.declared.alloc.Global.{Global}
 use Rattle.std.specs.declared.sync.Arc.{Arc}
 use Rattle.item_ids.specs.declared.key.Key.{Key}
-use Rattle.recorder.specs.Backed.{ReadValue, rank}
+use Rattle.item_ids.specs.Inputs.{rank}
+use Rattle.recorder.specs.Backed.{ReadValue}
 use Rattle.recorder.specs.Runs.{OutcomeValue}
 use Rattle.graph_rules.specs.Steps.{Claimed, AreHeld}
 use Rattle.job_table.specs.Tables.{TableValue, state_of}
-use Rattle.mark_green.specs.declared.asking.Stop.TheVariants as stop
+use Rattle.mark_green.specs.declared.asking.RunStop.TheVariants as stop
 use Rattle.mark_green.specs.Leaves.{Knows, HasStatus}
-use Rattle.mark_green.specs.Moves.{Halts}
+use Rattle.mark_green.specs.Moves.{HaltsAtRead}
 use Rattle.mark_green.proofs.GoingOn.{held_on}
 use Rattle.mark_green.proofs.Running.{claimed_stands}
 use Rattle.mark_green.proofs.Turning.{Fetches}
@@ -29,7 +30,7 @@ pub held_ran : (o : OutcomeValue) (held : List ReadValue) (a b : Option TableVal
 held_ran o held a b same told h = subst (Held o.told) (sym same) (told h)
 
 -- a key that a run lacked is evaluated
-pub held_more : (w : ℕ) (q k : Key) (old new : List ReadValue) (x : Unit {0}) (a b c : Option TableValue) → Halts w (rank q) (stop.Lacks k) a b → Fetches w k (Ok x) old new b c → Held old a → Held new c
+pub held_more : (w : ℕ) (q k : Key) (old new : List ReadValue) (x : Unit {0}) (a b c : Option TableValue) → HaltsAtRead w (rank q) (stop.Lacks k) a b → Fetches w k (Ok x) old new b c → Held old a → Held new c
 held_more w q k old new x None None None h f all = tt
 held_more w q k old new x None None (Some v) h f all = absurd f
 held_more w q k old new x None (Some u) c h f all = absurd h.1

@@ -1,5 +1,5 @@
 -- What a store has told, in runs and in the evaluations that they need.
-use Rattle.std.proofs.Common.{◌≡◌, List, [], ◌∷◌, ◌++◌, sym, subst, inl, inr}
+use Rattle.std.proofs.Common.{◌≡◌, ◌∙◌, List, [], ◌∷◌, ◌++◌, sym, subst, inl, inr}
 use Rattle.std.specs.Prelude.{Result, Ok, Err, Option, None, IfOk}
 use Rattle.std.proofs.lemmas.List.Elements.{All-contains, All-from_recursion}
 use Rattle.item_ids.specs.declared.key.Key.{Key}
@@ -8,9 +8,19 @@ use Rattle.recorder.specs.Backed.{ReadValue}
 use Rattle.recorder.specs.Runs.{OutcomeValue}
 use Rattle.recorder.specs.declared.runner.RunFault.{RunFault}
 use Rattle.job_table.specs.Tables.{TableValue}
-use Rattle.mark_green.specs.declared.asking.Stop.{Stop}
+use Rattle.mark_green.specs.declared.asking.RunStop.{RunStop}
+use Rattle.mark_green.specs.declared.worker.Worker.{Worker}
 use Rattle.mark_green.specs.Leaves.{StaysTold, AreTold}
+use Rattle.mark_green.specs.Workers.{IsSameWorker}
 use Rattle.mark_green.proofs.Once.{AreAnswered}
+
+-- a worker that calls twice is the same one behind both calls
+pub same_on : {S R O : Type 0} (told : S → Key → Value → Type 0) (old mid new : Worker S R O) → IsSameWorker told old mid → IsSameWorker told mid new → IsSameWorker told old new
+same_on told old mid new first second = record {
+  store = second.store ∙ first.store;
+  id = second.id ∙ first.id;
+  stays = λ q v h. second.stays q v (first.stays q v h);
+}
 
 pub told_on : (old new : Key → Value → Type 0) → StaysTold old new → (l : List ReadValue) → AreTold old l → AreTold new l
 told_on old new stays [] h = tt
@@ -45,7 +55,7 @@ told_reads held a told all (r ∷ rs) h = (
   told_reads held a told all rs h.1,
 )
 
-pub told_by_run : (made : Result OutcomeValue RunFault) (given : Result OutcomeValue Stop) (q : Key) (last : Option Stop) (b : Option TableValue) (held reads : List ReadValue) (told : Key → Value → Type 0)
+pub told_by_run : (made : Result OutcomeValue RunFault) (given : Result OutcomeValue RunStop) (q : Key) (last : Option RunStop) (b : Option TableValue) (held reads : List ReadValue) (told : Key → Value → Type 0)
     → IfOk given (λ o. (made ≡ Ok o) × (last ≡ None)) → IfOk made (λ o. (o.key ≡ q) × (o.told ≡ reads)) → AreAnswered held b told reads
     → IfOk given (λ o. AreTold told held → AreTold told o.told)
 told_by_run made (Err x) q last b held reads told ok of_run answered = tt

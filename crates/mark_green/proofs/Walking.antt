@@ -6,12 +6,13 @@ use Rattle.std.specs.declared.sync.Arc.{Arc}
 use Rattle.std.specs.Arc.{arc_value}
 use Rattle.std.proofs.lemmas.List.{take_more, take_all, take-append-drop, map-append}
 use Rattle.std.proofs.Math.Seq.{drop-cons}
+use Rattle.std.proofs.lemmas.Bool.{false≢true}
 use Rattle.item_ids.specs.declared.key.Key.{Key}
 use Rattle.item_ids.specs.Keys.{kind_of}
+use Rattle.item_ids.specs.Inputs.{rank}
 use Rattle.result_bytes.specs.declared.value.Value.{Value}
 use Rattle.fingerprint.specs.Prints.{print_of}
 use Rattle.sessions.specs.Sessions.{SessionValue, RecordValue, IsSession, key_at, entry_at, past_entry}
-use Rattle.recorder.specs.Backed.{rank}
 use Rattle.graph_rules.specs.Pasts.{Past}
 use Rattle.graph_rules.specs.Settings.{has_kind}
 use Rattle.graph_rules.specs.Steps.{State, Claimed, EdgeState, Open, Unchanged, Changed, edge_at, edge_of, Walk, AllUnchanged, OpenAt, ChangedAt, later, walk_on, walk, MayRun}
@@ -22,7 +23,7 @@ use Rattle.job_table.proofs.WalkRules.{edge_with, edge_same, edge_other}
 use Rattle.graph_rules.proofs.SettingRules.{kept_none, kept_some}
 use Rattle.job_table.proofs.CallRules.{walk_none, walk_some}
 use Rattle.mark_green.specs.declared.fault.Fault.{Fault}
-use Rattle.mark_green.specs.Leaves.{GoesOn, Leaves, HasStatus}
+use Rattle.mark_green.specs.Leaves.{GoesOn, LeavesClaims, HasStatus}
 use Rattle.mark_green.specs.Ensures.{EnsureGives, EdgeGives, WalkGives, walk_over, PastHasEdges}
 use Rattle.mark_green.specs.Moves.{keeps_on}
 use Rattle.mark_green.proofs.GoingOn.{leaves_none, leaves_then, leaves_gives_up, stands_on}
@@ -79,7 +80,7 @@ module _ (records : List RecordValue) (edges : List ℕ) (i : ℕ) (lt : i < len
 
 -- the first i edges are evaluated and unchanged
 abbrev pub Walked : List RecordValue → List ℕ → ℕ → TableValue → TableValue → Type 0
-Walked records edges i t u = Leaves t u × (walk_over u (front_of records i edges) ≡ AllUnchanged)
+Walked records edges i t u = LeavesClaims t u × (walk_over u (front_of records i edges) ≡ AllUnchanged)
 
 pub walked_none : (records : List RecordValue) (edges : List ℕ) (t : TableValue) → Walked records edges 0 t t
 walked_none records edges t = (leaves_none t, refl)
@@ -114,9 +115,6 @@ module _ (records : List RecordValue) (edges : List ℕ) (i w : ℕ) (q : Key) w
 
 -- ---- one edge
 
-not_both : (b : Bool) → b ≡ true → b ≡ false → ⊥
-not_both b t f = cc
-
 module _ (s : SessionValue) (session : IsSession s) (at : ℕ) (r : RecordValue) (lt : at < length s.records) (is : r ≡ get_or s.records at r) (w : ℕ) (v : Arc Value Global) where
   edge_in : (u : TableValue) → u.past ≡ Some s → (x : EdgeState) → edge_at (Some (print_of r.value)) ((state_of u).at r.key) ≡ x → edge_of (past_entry u.past) (state_of u) (key_at s.records at) ≡ x
   edge_in u has x e =
@@ -125,7 +123,7 @@ module _ (s : SessionValue) (session : IsSession s) (at : ℕ) (r : RecordValue)
 
   pub edge_gives : (b : Bool) → (b ≡ true → print_of r.value ≡ print_of (arc_value v)) → (print_of r.value ≡ print_of (arc_value v) → b ≡ true) → (t u : TableValue) → t.past ≡ Some s → EnsureGives t w r.key (Ok v) u → EdgeGives t w (key_at s.records at) (Ok b) u
   edge_gives true same other t u has e = (e.0, edge_in u (e.0.goes_on.past ∙ has) Unchanged (edge_same (print_of r.value) (arc_value v) ((state_of u).at r.key) e.1 (same refl)))
-  edge_gives false same other t u has e = (e.0, edge_in u (e.0.goes_on.past ∙ has) Changed (edge_other (print_of r.value) (arc_value v) ((state_of u).at r.key) e.1 (λ p. not_both false (other p) refl)))
+  edge_gives false same other t u has e = (e.0, edge_in u (e.0.goes_on.past ∙ has) Changed (edge_other (print_of r.value) (arc_value v) ((state_of u).at r.key) e.1 (λ p. false≢true (other p))))
 
 -- ---- all edges of a key
 

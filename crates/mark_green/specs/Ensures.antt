@@ -5,8 +5,9 @@ use Rattle.std.specs.declared.sync.Arc.{Arc}
 use Rattle.std.specs.Arc.{arc_value}
 use Rattle.item_ids.specs.declared.key.Key.{Key}
 use Rattle.item_ids.specs.Keys.{kind_of}
+use Rattle.item_ids.specs.Inputs.{rank}
 use Rattle.result_bytes.specs.declared.value.Value.{Value}
-use Rattle.recorder.specs.Backed.{ReadValue, rank}
+use Rattle.recorder.specs.Backed.{ReadValue}
 use Rattle.recorder.specs.Runs.{OutcomeValue}
 use Rattle.graph_rules.specs.Steps.{Unchanged, Changed, AllUnchanged, Walk, walk, edge_of, MayRun, IsDoneWith, IsOwn, AreHeld}
 use Rattle.graph_rules.specs.Settings.{has_kind}
@@ -19,16 +20,16 @@ use Rattle.mark_green.specs.declared.fault.Fault.{Fault}
 use Rattle.mark_green.specs.declared.fault.Fault.TheVariants as fault
 use Rattle.mark_green.specs.declared.steps.Tried.{Tried}
 use Rattle.mark_green.specs.declared.steps.Tried.TheVariants as tried
-use Rattle.mark_green.specs.declared.asking.Stop.{Stop}
-use Rattle.mark_green.specs.declared.asking.Stop.TheVariants as stop
-use Rattle.mark_green.specs.Leaves.{GoesOn, Stops, Stays, StaysBut, GivesUp, Leaves, LeavesBut, IsOthers}
+use Rattle.mark_green.specs.declared.asking.RunStop.{RunStop}
+use Rattle.mark_green.specs.declared.asking.RunStop.TheVariants as stop
+use Rattle.mark_green.specs.Leaves.{GoesOn, Stops, Stays, StaysBut, WorkerGivesUp, LeavesClaims, LeavesBut, IsOthers}
 
 -- Ok: the key is done in the table with this result. Stopped: a worker had failed, or w had a key
 -- whose rank isn't above this one's. Busy: another worker had a key. Whatever the answer, what a
 -- worker had claimed or ran it still has.
 abbrev pub EnsureGives : TableValue → ℕ → Key → Result (Arc Value Global) Fault → TableValue
     → Type 0
-EnsureGives t w q (Ok v) u = Leaves t u × IsDoneWith (arc_value v) ((state_of u).at q)
+EnsureGives t w q (Ok v) u = LeavesClaims t u × IsDoneWith (arc_value v) ((state_of u).at q)
 EnsureGives t w q (Err fault.Stopped) u =
     Stops t u × Stays t u × (((state_of t).failed ≡ true) ⊎ IsOwn (state_of t) w q)
 EnsureGives t w q (Err fault.OutOfMemory) u =
@@ -75,8 +76,8 @@ TellsTried told q _ = Unit {0}
 
 -- evaluating a previous edge e, and whether it is unchanged then
 abbrev pub EdgeGives : TableValue → ℕ → Key → Result Bool Fault → TableValue → Type 0
-EdgeGives t w e (Ok true) u = Leaves t u × (edge_of (past_entry u.past) (state_of u) e ≡ Unchanged)
-EdgeGives t w e (Ok false) u = Leaves t u × (edge_of (past_entry u.past) (state_of u) e ≡ Changed)
+EdgeGives t w e (Ok true) u = LeavesClaims t u × (edge_of (past_entry u.past) (state_of u) e ≡ Unchanged)
+EdgeGives t w e (Ok false) u = LeavesClaims t u × (edge_of (past_entry u.past) (state_of u) e ≡ Changed)
 EdgeGives t w e (Err f) u = EnsureGives t w e (Err f) u
 
 -- the walk over previous edges in a table
@@ -85,8 +86,8 @@ walk_over t es = walk (past_entry t.past) (state_of t) es
 
 -- evaluating previous edges, up to the first that is changed, and whether none is
 abbrev pub WalkGives : TableValue → ℕ → List Key → Result Bool Fault → TableValue → Type 0
-WalkGives t w es (Ok true) u = Leaves t u × (walk_over u es ≡ AllUnchanged)
-WalkGives t w es (Ok false) u = Leaves t u × MayRun (Some (walk_over u es))
+WalkGives t w es (Ok true) u = LeavesClaims t u × (walk_over u es ≡ AllUnchanged)
+WalkGives t w es (Ok false) u = LeavesClaims t u × MayRun (Some (walk_over u es))
 WalkGives t w es (Err f) u = IsGivenUp t w f u × Stays t u
 
 -- the previous session has the key with these edges
@@ -108,8 +109,8 @@ FetchGives t w k (Err f) held u = IsGivenUp t w f u × StaysBut k t u
 -- one run, or the evaluation of a key that it lacked
 abbrev pub TurnGives : TableValue → ℕ → Key → Result (Option OutcomeValue) Fault
     → List ReadValue → TableValue → Type 0
-TurnGives t w q (Ok (Some o)) held u = Leaves t u × AreHeld (state_of u) o.told
-TurnGives t w q (Ok None) held u = Leaves t u × AreHeld (state_of u) held
+TurnGives t w q (Ok (Some o)) held u = LeavesClaims t u × AreHeld (state_of u) o.told
+TurnGives t w q (Ok None) held u = LeavesClaims t u × AreHeld (state_of u) held
 TurnGives t w q (Err f) held u = IsGivenUp t w f u × Stays t u
 
 -- what was read in a run, or else what is held for the next one
@@ -119,27 +120,27 @@ told_or None held = held
 
 -- runs, until one has an outcome
 abbrev pub RunGives : TableValue → ℕ → Result OutcomeValue Fault → TableValue → Type 0
-RunGives t w (Ok o) u = Leaves t u × AreHeld (state_of u) o.told
+RunGives t w (Ok o) u = LeavesClaims t u × AreHeld (state_of u) o.told
 RunGives t w (Err f) u = IsGivenUp t w f u × Stays t u
 
 -- where a table is out of memory so is the work; any other refusal of it ends the work
-abbrev pub IsFaultOf : TableFault → Fault → Type 0
-IsFaultOf table.OutOfMemory f = f ≡ fault.OutOfMemory
-IsFaultOf _ f = f ≡ fault.Stopped
+abbrev pub IsWorkFault : TableFault → Fault → Type 0
+IsWorkFault table.OutOfMemory f = f ≡ fault.OutOfMemory
+IsWorkFault _ f = f ≡ fault.Stopped
 
 -- the fault of a run that stopped
-abbrev pub IsFaultOfStop : Stop → Fault → Type 0
+abbrev pub IsFaultOfStop : RunStop → Fault → Type 0
 IsFaultOfStop stop.Busy f = f ≡ fault.Busy
 IsFaultOfStop stop.Stopped f = f ≡ fault.Stopped
-IsFaultOfStop (stop.Refused x) f = IsFaultOf x f
+IsFaultOfStop (stop.Refused x) f = IsWorkFault x f
 IsFaultOfStop (stop.Lacks k) f = f ≡ fault.OutOfMemory
 IsFaultOfStop stop.OutOfMemory f = f ≡ fault.OutOfMemory
 
 -- nothing is called where another worker has a key, or a worker failed before
-abbrev pub StopsFor : Stop → TableValue → TableValue → Type 0
+abbrev pub StopsFor : RunStop → TableValue → TableValue → Type 0
 StopsFor stop.Busy t u = u ≡ t
 StopsFor stop.Stopped t u = u ≡ t
-StopsFor _ t u = GivesUp t u
+StopsFor _ t u = WorkerGivesUp t u
 
 -- what a store says of an outcome is what stands in it
 abbrev pub ShowsOutcomes : (Arc OutcomeValue Global → OutcomeValue) → Type 0

@@ -3,8 +3,9 @@ use Rattle.std.specs.Prelude.{◌≡◌, ◌≢◌, ◌⊎◌, ℕ, ◌<◌, tru
 use Rattle.std.specs.List.{AllByRecursion}
 use Rattle.std.specs.Arc.{arc_value}
 use Rattle.item_ids.specs.declared.key.Key.{Key}
+use Rattle.item_ids.specs.Inputs.{rank}
 use Rattle.result_bytes.specs.declared.value.Value.{Value}
-use Rattle.recorder.specs.Backed.{ReadValue, rank}
+use Rattle.recorder.specs.Backed.{ReadValue}
 use Rattle.graph_rules.specs.Steps.{Status, Event, AreSteps, IsHeldBy}
 use Rattle.job_table.specs.Tables.{TableValue, past_of, state_of}
 use Rattle.job_table.specs.declared.fault.Asked.{Asked}
@@ -17,12 +18,12 @@ Knows P None = Unit {0}
 Knows P (Some t) = P t
 
 -- what is known of a table before and after, where anything is known of it
-abbrev pub Tells : (TableValue → TableValue → Type 0) → Option TableValue → Option TableValue
+abbrev pub KnowsChange : (TableValue → TableValue → Type 0) → Option TableValue → Option TableValue
     → Type 0
-Tells P None None = Unit {0}
-Tells P None (Some u) = ⊥
-Tells P (Some t) None = ⊥
-Tells P (Some t) (Some u) = P t u
+KnowsChange P None None = Unit {0}
+KnowsChange P None (Some u) = ⊥
+KnowsChange P (Some t) None = ⊥
+KnowsChange P (Some t) (Some u) = P t u
 
 -- a key that is to be worked on is no input
 abbrev pub ClaimsNoInput : Key → Result Asked TableFault → Type 0
@@ -67,13 +68,13 @@ StaysBut q t u = (k : Key) (w : ℕ) → k ≢ q → IsHeldBy w ((state_of t).at
     → (state_of u).at k ≡ (state_of t).at k
 
 -- a worker gave up, and else each key is as it was
-pub record GivesUp (t u : TableValue) : Type 0 where
+pub record WorkerGivesUp (t u : TableValue) : Type 0 where
   pub stops : Stops t u
   pub same : (k : Key) → (state_of u).at k ≡ (state_of t).at k
 
 -- The history continues by steps in which nobody failed, and just the keys that were claimed or
 -- running before still are, by the same workers.
-pub record Leaves (t u : TableValue) : Type 0 where
+pub record LeavesClaims (t u : TableValue) : Type 0 where
   pub goes_on : GoesOn t u
   pub failed : (state_of u).failed ≡ (state_of t).failed
   pub stays : Stays t u

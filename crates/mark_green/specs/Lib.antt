@@ -1,3 +1,4 @@
 pub mod Leaves
+pub mod Workers
 pub mod Ensures
 pub mod Moves

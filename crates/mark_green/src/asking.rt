@@ -1,11 +1,11 @@
 //! Why runs stop, and what answers their reads.
 ghost use Rattle.std.specs.Prelude.{◌≡◌, ◌⊎◌, ◌<◌, ℕ, Some, IfOk, IfErr};
 ghost use Rattle.std.specs.Arc.{arc_value};
-ghost use Rattle.recorder.specs.Backed.{IsOfKind};
+ghost use Rattle.item_ids.specs.Inputs.{rank as rank_of_key};
+ghost use Rattle.result_bytes.specs.Values.{IsOfKind};
 ghost use Rattle.mark_green.specs.Leaves.{Knows, StaysTold};
-ghost use Rattle.recorder.specs.Backed.{rank as rank_of_key};
-ghost use Rattle.mark_green.specs.Moves.{IsDoneIn, Halts, IsFaultOfRead};
-ghost use Rattle.mark_green.specs.declared.asking.Stop.{Stop};
+ghost use Rattle.mark_green.specs.Moves.{IsDoneIn, HaltsAtRead, IsFaultOfRead};
+ghost use Rattle.mark_green.specs.declared.asking.RunStop.{RunStop};
 
 use crate::store::Store;
 use fingerprint::Sealed;
@@ -17,7 +17,7 @@ use std::sync::Arc;
 
 /// Why a run has no outcome.
 #[derive(Drop)]
-pub(crate) enum Stop {
+pub(crate) enum RunStop {
     /// The worker has claimed this key, which isn't done.
     Lacks(Key),
     /// Another worker has a key.
@@ -33,16 +33,16 @@ pub(crate) enum Stop {
 /// Answers the reads of a run, of keys below a rank: from the results held, else from the store. After the first read
 /// that the store doesn't answer it asks nothing.
 #[derive(Drop)]
-pub(crate) struct Asking<'a, S: Store> {
+pub(crate) struct StoreReader<'a, S: Store> {
     pub alloc: Global,
     pub store: &'a mut S,
     pub w: u32,
     pub below: u8,
     pub held: &'a AnswerList,
-    pub stop: Option<Stop>,
+    pub stop: Option<RunStop>,
 }
 
-impl<S: Store> Reader for Asking<'_, S> {
+impl<S: Store> Reader for StoreReader<'_, S> {
     ghost use Rattle.std.specs.Prelude.{◌≡◌, ◌⊎◌, Contains, refl};
     ghost use Rattle.std.proofs.Common.{◌∙◌, inl, inr, subst, sym};
     ghost use Rattle.mark_green.specs.Leaves.{Knows, StaysTold};
@@ -100,7 +100,7 @@ impl<S: Store> Reader for Asking<'_, S> {
 }
 
 /// Notes what stopped the run, and gives the refusal of the read.
-fn stop_for(noted: &mut Option<Stop>, stop: Stop) -> ReadFault
+fn stop_for(noted: &mut Option<RunStop>, stop: RunStop) -> ReadFault
     ensures noted { noted.new ≡ Some stop }
     ensures fault { IsFaultOfRead stop result }
 {
@@ -110,54 +110,59 @@ fn stop_for(noted: &mut Option<Stop>, stop: Stop) -> ReadFault
 }
 
 /// The refusal of a read, by what stopped the run: a key isn't held only where a worker has it.
-fn fault_of_read(stop: &Stop) -> ReadFault
+fn fault_of_read(stop: &RunStop) -> ReadFault
     ensures { IsFaultOfRead stop.now result }
 {
     match stop {
-        Stop::Lacks(_) | Stop::Busy => ReadFault::NotHeld,
-        Stop::Refused(TableFault::OutOfMemory) | Stop::OutOfMemory => ReadFault::OutOfMemory,
-        Stop::Stopped | Stop::Refused(_) => ReadFault::Stopped,
+        RunStop::Lacks(_) | RunStop::Busy => ReadFault::NotHeld,
+        RunStop::Refused(TableFault::OutOfMemory) | RunStop::OutOfMemory => ReadFault::OutOfMemory,
+        RunStop::Stopped | RunStop::Refused(_) => ReadFault::Stopped,
     }
 }
 
 /// The result of a key that is done in the store.
-fn answer_of<S: Store>(alloc: Global, store: &mut S, w: u32, key: &Key) -> Result<Arc<Sealed>, Stop>
+fn answer_of<S: Store>(
+    alloc: Global,
+    store: &mut S,
+    w: u32,
+    key: &Key,
+) -> Result<Arc<Sealed>, RunStop>
     ensures kind { IfOk result (λ a. IsOfKind key.now (arc_value a)) }
     ensures same { IfOk result (λ _. S.table store.new ≡ S.table store.old) }
     ensures done { IfOk result (λ a. Knows (IsDoneIn key.now (arc_value a)) (S.table store.new)) }
     ensures told { IfOk result (λ a. S.told store.new key.now (arc_value a)) }
     ensures stays { StaysTold (S.told store.old) (S.told store.new) }
     ensures halts { (r : ℕ) → rank_of_key key.now < r → IfErr result
-        (λ x. Halts w r x (S.table store.old) (S.table store.new)) }
+        (λ x. HaltsAtRead w r x (S.table store.old) (S.table store.new)) }
 {
     match store.ask(w, key) {
         Ok(Asked::Done(sealed)) => of_kind(key, sealed),
         Ok(Asked::Yours) => Err(lacks(alloc, key)),
-        Ok(Asked::Busy) => Err(Stop::Busy),
-        Ok(Asked::Stopped) => Err(Stop::Stopped),
-        Err(fault) => Err(Stop::Refused(fault)),
+        Ok(Asked::Busy) => Err(RunStop::Busy),
+        Ok(Asked::Stopped) => Err(RunStop::Stopped),
+        Err(fault) => Err(RunStop::Refused(fault)),
     }
 }
 
 /// The result, where it is of the key's kind.
-fn of_kind(key: &Key, sealed: Arc<Sealed>) -> Result<Arc<Sealed>, Stop>
+fn of_kind(key: &Key, sealed: Arc<Sealed>) -> Result<Arc<Sealed>, RunStop>
     ensures same { IfOk result (λ a. a ≡ sealed) }
     ensures kind { IfOk result (λ a. IsOfKind key.now (arc_value a)) }
-    ensures err { IfErr result (λ x. x ≡ Stop.OutOfMemory) }
+    ensures err { IfErr result (λ x. x ≡ RunStop.OutOfMemory) }
 {
     if sealed.value().kind() == key.kind() {
         Ok(sealed)
     } else {
-        Err(Stop::OutOfMemory)
+        Err(RunStop::OutOfMemory)
     }
 }
 
 /// Why the run of a key that lacks this one stops.
-fn lacks(alloc: Global, key: &Key) -> Stop
-    ensures { (result ≡ Stop.Lacks key.now) ⊎ (result ≡ Stop.OutOfMemory) }
+fn lacks(alloc: Global, key: &Key) -> RunStop
+    ensures { (result ≡ RunStop.Lacks key.now) ⊎ (result ≡ RunStop.OutOfMemory) }
 {
     match key.copy(alloc) {
-        Ok(key) => Stop::Lacks(key),
-        Err(_) => Stop::OutOfMemory,
+        Ok(key) => RunStop::Lacks(key),
+        Err(_) => RunStop::OutOfMemory,
     }
 }

@@ -3,8 +3,8 @@
 #![tactic(auto)]
 
 mod asking;
-mod bringing;
 mod edges;
+mod evaluating;
 mod fault;
 mod giving_up;
 mod runs;
@@ -13,7 +13,7 @@ mod steps;
 mod store;
 mod worker;
 
-pub use bringing::ensure;
+pub use evaluating::ensure;
 pub use fault::Fault;
 pub use solo::{Solo, ask_table};
 pub use store::Store;

@@ -1,13 +1,13 @@
 //! One run of a key.
 ghost use Rattle.std.specs.Prelude.{◌≡◌, ◌⊎◌, ◌<◌, IfOk, IfErr, Some, None, Ok};
-ghost use Rattle.recorder.specs.Backed.{rank as rank_of_key};
+ghost use Rattle.item_ids.specs.Inputs.{rank as rank_of_key};
 ghost use Rattle.graph_rules.specs.Steps.{AreHeld};
 ghost use Rattle.job_table.specs.Tables.{state_of};
 ghost use Rattle.mark_green.specs.Leaves.{Knows, StaysTold, AreTold};
-ghost use Rattle.mark_green.specs.Moves.{Halts, IsWantOfMemory};
-ghost use Rattle.mark_green.specs.declared.asking.Stop.{Stop};
+ghost use Rattle.mark_green.specs.Moves.{HaltsAtRead, IsWantOfMemory};
+ghost use Rattle.mark_green.specs.declared.asking.RunStop.{RunStop};
 
-use crate::asking::{Asking, Stop};
+use crate::asking::{RunStop, StoreReader};
 use crate::store::Store;
 use item_ids::{Key, rank};
 use recorder::{AnswerList, Outcome, ReadFault, Recorder, RunFault, Runner, record};
@@ -21,7 +21,7 @@ pub(crate) fn run_once<S: Store, R: Runner>(
     w: u32,
     key: &Key,
     held: &AnswerList,
-) -> Result<Outcome<R>, Stop>
+) -> Result<Outcome<R>, RunStop>
     requires rank { 0 < rank_of_key key.now }
     ensures key { IfOk result (λ o. o.key ≡ key.now) }
     ensures profile { IfOk result (λ o. Knows (λ t. o.profile ≡ t.terms.profile) (S.table store.old)) }
@@ -31,11 +31,11 @@ pub(crate) fn run_once<S: Store, R: Runner>(
     ensures told { IfOk result (λ o. AreTold (S.told store.new) held.now
         → AreTold (S.told store.new) o.told) }
     ensures stays { StaysTold (S.told store.old) (S.told store.new) }
-    ensures halts { IfErr result (λ x. Halts w (rank_of_key key.now) x (S.table store.old)
+    ensures halts { IfErr result (λ x. HaltsAtRead w (rank_of_key key.now) x (S.table store.old)
         (S.table store.new)) }
 {
     let profile = store.terms().profile;
-    let reader = Asking {
+    let reader = StoreReader {
         alloc,
         store,
         w,
@@ -47,7 +47,7 @@ pub(crate) fn run_once<S: Store, R: Runner>(
     let outcome = record(alloc, runner, profile, key, &mut recorder);
     // What was read is answered by the reader, by the recorder's type.
     let _reads = recorder.reads();
-    let Asking {
+    let StoreReader {
         alloc: _,
         store: back,
         w: _,
@@ -69,19 +69,19 @@ fn keep<S>(store: &mut S)
 /// The outcome, unless the run was stopped or ran out of memory.
 fn outcome_of<R: Runner>(
     outcome: Result<Outcome<R>, RunFault>,
-    stop: Option<Stop>,
-) -> Result<Outcome<R>, Stop>
+    stop: Option<RunStop>,
+) -> Result<Outcome<R>, RunStop>
     requires memory { stop ≡ None → IfErr outcome IsWantOfMemory }
     ensures ok { IfOk result (λ o. (outcome ≡ Ok o) × (stop ≡ None)) }
     ensures err { IfErr result
-        (λ x. (stop ≡ Some x) ⊎ ((stop ≡ None) × (x ≡ Stop.OutOfMemory))) }
+        (λ x. (stop ≡ Some x) ⊎ ((stop ≡ None) × (x ≡ RunStop.OutOfMemory))) }
 {
     match stop {
         Some(stop) => Err(stop),
         None => match outcome {
             Ok(outcome) => Ok(outcome),
-            Err(RunFault::OutOfMemory) => Err(Stop::OutOfMemory),
-            Err(RunFault::Read(ReadFault::OutOfMemory)) => Err(Stop::OutOfMemory),
+            Err(RunFault::OutOfMemory) => Err(RunStop::OutOfMemory),
+            Err(RunFault::Read(ReadFault::OutOfMemory)) => Err(RunStop::OutOfMemory),
             Err(RunFault::Read(_)) => unreachable!(),
         },
     }

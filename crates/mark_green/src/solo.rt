@@ -5,7 +5,7 @@ ghost use Rattle.job_table.specs.Calls.{AskGives};
 ghost use Rattle.mark_green.specs.Leaves.{ClaimsNoInput};
 ghost use Rattle.mark_green.specs.Ensures.{EnsureGives};
 
-use crate::bringing::ensure;
+use crate::evaluating::ensure;
 use crate::fault::Fault;
 use crate::store::Store;
 use fingerprint::Sealed;

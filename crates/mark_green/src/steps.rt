@@ -5,7 +5,8 @@ ghost use Rattle.graph_rules.specs.Steps.{Claimed, Running, AllUnchanged, AreHel
 ghost use Rattle.job_table.specs.Tables.{state_of};
 ghost use Rattle.job_table.specs.Calls.{walk_in};
 ghost use Rattle.sessions.specs.Sessions.{session_in};
-ghost use Rattle.mark_green.specs.Leaves.{Knows, Tells, StaysTold, AreTold, HasStatus};
+ghost use Rattle.mark_green.specs.Leaves.{Knows, AreTold, HasStatus};
+ghost use Rattle.mark_green.specs.Workers.{ChangesTable, IsSameWorker};
 ghost use Rattle.mark_green.specs.Ensures.{WorkGives, TryGives, TellsTried, IsOfPast, IsOfEdges, ShowsOutcomes};
 
 use crate::fault::Fault;
@@ -33,13 +34,11 @@ pub(crate) enum Tried {
 impl<S: Store<Out = Arc<Outcome<R>>>, R: Runner> Worker<'_, S, R> {
     /// Marks a key that the worker has claimed, all of whose previous edges are unchanged.
     pub(crate) fn mark(&mut self, key: &Key) -> Result<Arc<Sealed>, Fault>
-        ensures store { self.new.store.ghost_name ≡ self.old.store.ghost_name }
-        ensures id { self.new.id ≡ self.old.id }
-        ensures stays { StaysTold (S.told self.old.store.now) (S.told self.new.store.now) }
+        ensures same { IsSameWorker S.told self.old self.new }
         ensures told { IfOk result (λ a. S.told self.new.store.now key.now (arc_value a)) }
-        ensures gives { Tells (λ t u. HasStatus (Claimed self.old.id) self.old.id key.now t
-            → walk_in t key.now ≡ Some AllUnchanged → WorkGives t self.old.id key.now result u)
-            (S.table self.old.store.now) (S.table self.new.store.now) }
+        ensures gives { ChangesTable S.table self.old self.new
+            (λ t u. HasStatus (Claimed self.old.id) self.old.id key.now t
+            → walk_in t key.now ≡ Some AllUnchanged → WorkGives t self.old.id key.now result u) }
     {
         match self.store.mark(self.id, key) {
             Ok(sealed) => Ok(sealed),
@@ -48,20 +47,17 @@ impl<S: Store<Out = Arc<Outcome<R>>>, R: Runner> Worker<'_, S, R> {
     }
 
     /// Marks a key that the worker has claimed, if all its previous edges are done and unchanged already; else nothing
-    /// changes, and it is told how the key is completed.
+    /// changes, and the answer is how the key is completed.
     pub(crate) fn mark_at_once(
         &mut self,
         key: &Key,
         past: &Option<Arc<Session>>,
     ) -> Result<Tried, Fault>
-        ensures store { self.new.store.ghost_name ≡ self.old.store.ghost_name }
-        ensures id { self.new.id ≡ self.old.id }
-        ensures stays { StaysTold (S.told self.old.store.now) (S.told self.new.store.now) }
+        ensures same { IsSameWorker S.told self.old self.new }
         ensures told { IfOk result (TellsTried (S.told self.new.store.now) key.now) }
-        ensures gives { Tells (λ t u. session_in past.now ≡ t.past
+        ensures gives { ChangesTable S.table self.old self.new (λ t u. session_in past.now ≡ t.past
             → HasStatus (Claimed self.old.id) self.old.id key.now t
-            → TryGives t self.old.id key.now result u)
-            (S.table self.old.store.now) (S.table self.new.store.now) }
+            → TryGives t self.old.id key.now result u) }
     {
         let Some(_) = past else {
             return Ok(Tried::Runs);
@@ -83,13 +79,11 @@ impl<S: Store<Out = Arc<Outcome<R>>>, R: Runner> Worker<'_, S, R> {
         requires told { AreTold (S.told self.old.store.now) outcome.told }
         requires profile { Knows (λ t. outcome.profile ≡ t.terms.profile)
             (S.table self.old.store.now) }
-        ensures store { self.new.store.ghost_name ≡ self.old.store.ghost_name }
-        ensures id { self.new.id ≡ self.old.id }
-        ensures stays { StaysTold (S.told self.old.store.now) (S.told self.new.store.now) }
+        ensures same { IsSameWorker S.told self.old self.new }
         ensures told { IfOk result (λ a. S.told self.new.store.now key.now (arc_value a)) }
-        ensures gives { Tells (λ t u. HasStatus (Running self.old.id) self.old.id key.now t
-            → AreHeld (state_of t) outcome.told → WorkGives t self.old.id key.now result u)
-            (S.table self.old.store.now) (S.table self.new.store.now) }
+        ensures gives { ChangesTable S.table self.old self.new
+            (λ t u. HasStatus (Running self.old.id) self.old.id key.now t
+            → AreHeld (state_of t) outcome.told → WorkGives t self.old.id key.now result u) }
     {
         let Ok((sealed, outcome)) = share(self.alloc, outcome) else {
             return Err(self.give_up(TableFault::OutOfMemory));

@@ -7,7 +7,7 @@ ghost use Rattle.graph_rules.specs.Steps.{AreHeld};
 ghost use Rattle.sessions.specs.Sessions.{session_in};
 ghost use Rattle.job_table.specs.Tables.{state_of};
 ghost use Rattle.job_table.specs.Calls.{AskGives, MarkGives, BeginGives, FinishGives, FailGives};
-ghost use Rattle.mark_green.specs.Leaves.{Knows, Tells, ClaimsNoInput, StaysTold, TellsDone, AreTold};
+ghost use Rattle.mark_green.specs.Leaves.{Knows, KnowsChange, ClaimsNoInput, StaysTold, TellsDone, AreTold};
 
 use fingerprint::Sealed;
 use item_ids::Key;
@@ -16,7 +16,7 @@ use sessions::{Session, Terms};
 use std::alloc::AllocError;
 use std::sync::Arc;
 
-/// The calls that a worker makes at a table, its own or a shared one. Where a store tells nothing of its table,
+/// The calls that a worker makes at a table, its own or a shared one. Where nothing is known of the table of a store,
 /// contracts say nothing of what its calls do, but for the results that it told the worker: those stay so.
 pub trait Store {
     /// The outcome of a run.
@@ -36,7 +36,7 @@ pub trait Store {
 
     /// Asks for a key. If nobody has claimed it, the worker claims it; an input is never claimed.
     fn ask(&mut self, w: u32, key: &Key) -> Result<Asked, TableFault>
-        ensures gives { Tells (λ t u. AskGives t w key.now result u) (table self.old)
+        ensures gives { KnowsChange (λ t u. AskGives t w key.now result u) (table self.old)
             (table self.new) }
         ensures claims { ClaimsNoInput key.now result }
         ensures told { TellsDone (told self.new) key.now result }
@@ -44,14 +44,14 @@ pub trait Store {
 
     /// Takes over the previous session's result for a key that the worker has claimed.
     fn mark(&mut self, w: u32, key: &Key) -> Result<Arc<Sealed>, TableFault>
-        ensures gives { Tells (λ t u. MarkGives t w key.now result u) (table self.old)
+        ensures gives { KnowsChange (λ t u. MarkGives t w key.now result u) (table self.old)
             (table self.new) }
         ensures told { IfOk result (λ a. told self.new key.now (arc_value a)) }
         ensures stays { StaysTold (told self.old) (told self.new) };
 
     /// Begins the run of a key that the worker has claimed.
     fn begin_run(&mut self, w: u32, key: &Key) -> Result<(), TableFault>
-        ensures gives { Tells (λ t u. BeginGives t w key.now result u) (table self.old)
+        ensures gives { KnowsChange (λ t u. BeginGives t w key.now result u) (table self.old)
             (table self.new) }
         ensures stays { StaysTold (told self.old) (told self.new) };
 
@@ -61,7 +61,7 @@ pub trait Store {
         requires held { Knows (λ t. AreHeld (state_of t) (outcome_in outcome).told)
             (table self.old) }
         requires told { AreTold (told self.old) (outcome_in outcome).told }
-        ensures gives { Tells (λ t u. FinishGives t w (outcome_in outcome) result u)
+        ensures gives { KnowsChange (λ t u. FinishGives t w (outcome_in outcome) result u)
             (table self.old) (table self.new) }
         ensures told { IfOk result (λ _. told self.new (outcome_in outcome).key
             (outcome_in outcome).value) }
@@ -69,7 +69,7 @@ pub trait Store {
 
     /// Notes that the worker gives up.
     fn fail(&mut self, w: u32) -> Result<(), TableFault>
-        ensures gives { Tells (λ t u. FailGives t w result u) (table self.old) (table self.new) }
+        ensures gives { KnowsChange (λ t u. FailGives t w result u) (table self.old) (table self.new) }
         ensures stays { StaysTold (told self.old) (told self.new) };
 
     /// The terms of the session at work. This takes no memory.

@@ -6,11 +6,11 @@ use Rattle.mj_tree.specs.Trees.{Name, Statement, Method, Main, Class, File}
 use Rattle.mj_members.specs.Declarations.{ClassDecl}
 use Rattle.mj_classes.specs.Declarations.{number_classes, main_first, classes_of, declared_from, decl}
 use Rattle.mj_classes.specs.Chains.{is_in}
+use Rattle.mj_classes.proofs.Tables.{all_append}
 use Rattle.mj_rules.specs.Sentences.{classes_in, trees_of}
 use Rattle.mj_rules.proofs.OneAnswer.{decl_stands}
 use Rattle.recorder.specs.Projects.{Project}
 use Rattle.recorder.proofs.Recorded.{all_at}
-use Rattle.query_rules.proofs.Firsts.{all_append}
 
 abbrev HasNoMethods : ClassDecl → Type 0
 HasNoMethods k = (s : Statement) → k.main ≡ Some s → k.methods ≡ []

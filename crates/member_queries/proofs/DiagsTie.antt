@@ -28,9 +28,10 @@ use Rattle.recorder.specs.Backed.{is_seen}
 use Rattle.query_rules.specs.Items.{class_at, header_of, body_at, mistakes_in, fault_set, faults_of}
 use Rattle.query_rules.specs.Meaning.{mean}
 use Rattle.query_rules.specs.Reads.{bodies_of, diagnosis_reads, asked_keys, first_keys, reads}
-use Rattle.body_query.proofs.Sets.{Same}
-use Rattle.member_queries.specs.Facts.{header_in, faults_in, without_repeats, first_names}
-use Rattle.member_queries.specs.Diags.{bodies_in, body_step, bodies_steps, declared_steps, diags_by, diags_steps}
+use Rattle.mj_rules.proofs.Composing.{SameFaults}
+use Rattle.result_bytes.specs.Parts.{header_in, faults_in}
+use Rattle.member_queries.specs.FirstNames.{without_repeats, first_names}
+use Rattle.member_queries.specs.Diags.{bodies_in, body_step, bodies_steps, declared_faults_steps, diags_by, diags_steps}
 use Rattle.member_queries.specs.Laws.{DiagsTies}
 use Rattle.member_queries.proofs.Passes.{Passes, Stays, Reads, passes_each, flat_one, ties_by}
 use Rattle.member_queries.proofs.Declared.{main_has_none, found_behind}
@@ -103,10 +104,10 @@ module _ (profile : Profile) (p : Project) (c : Name) where
     abbrev told : List Diagnostic
     told = fault_set (declaration_faults profile cs k) ++ flat_map (λ m. fault_set (body_list m)) (bodies_in (header_of k))
 
-    told_same : Same told (class_faults profile cs k)
+    told_same : SameFaults told (class_faults profile cs k)
     told_same =
-        let bodies : Same (flat_map (λ m. fault_set (body_list m)) (bodies_in (header_of k))) (body_faults cs k) =
-        subst (Same (flat_map (λ m. fault_set (body_list m)) (bodies_in (header_of k)))) (all_bodies k.main refl)
+        let bodies : SameFaults (flat_map (λ m. fault_set (body_list m)) (bodies_in (header_of k))) (body_faults cs k) =
+        subst (SameFaults (flat_map (λ m. fault_set (body_list m)) (bodies_in (header_of k)))) (all_bodies k.main refl)
         (same_flat (λ m. fault_set (body_list m)) body_list (λ m. set_same (body_list m)) (bodies_in (header_of k))) in
         same_append (fault_set (declaration_faults profile cs k)) (declaration_faults profile cs k) (flat_map (λ m. fault_set (body_list m)) (bodies_in (header_of k))) (body_faults cs k)
         (set_same (declaration_faults profile cs k)) bodies
@@ -125,7 +126,7 @@ module _ (profile : Profile) (p : Project) (c : Name) where
         (subst (λ (l : List Diagnostic). Passes (mean profile p) (bodies_steps c (header_of k) start q) (flat_map (λ (m : Name). keys.CheckBody c m ∷ []) (bodies_in (header_of k))) (q l)) (fold_append (λ (m : Name). fault_set (body_list m)) (bodies_in (header_of k)) start)
         (passes_each (mean profile p) (body_step c) (λ (m : Name). keys.CheckBody c m ∷ []) (λ m faults. faults ++ fault_set (body_list m)) (bodies_in (header_of k)) (every_body (bodies_in (header_of k))) start q))
 
-    declared_pass : Passes (mean profile p) (declared_steps c (header_of k) (λ faults. Ret (values.Diags faults))) (keys.CheckClass c ∷ map (keys.CheckBody c) (bodies_in (header_of k))) (Ret (values.Diags (fault_set (class_faults profile cs k))))
+    declared_pass : Passes (mean profile p) (declared_faults_steps c (header_of k) (λ faults. Ret (values.Diags faults))) (keys.CheckClass c ∷ map (keys.CheckBody c) (bodies_in (header_of k))) (Ret (values.Diags (fault_set (class_faults profile cs k))))
     unfolding mean
     declared_pass =
         let check : faults_in (mean profile p (keys.CheckClass c)) ≡ fault_set (declaration_faults profile cs k) = ap (faults_of (declaration_faults profile cs)) e in

@@ -2,7 +2,7 @@
 use Rattle.std.proofs.Common.{◌≡◌, Bool, true, false, not, List, [], ◌∷◌, ◌++◌, refl, ap, ◌∙◌, if◌then◌else◌, append-nil, append_assoc}
 use Rattle.mj_tree.specs.Trees.{Name}
 use Rattle.mj_project.specs.Repeats.{is_in, repeats_behind, repeats}
-use Rattle.member_queries.specs.Facts.{without_repeats, first_names}
+use Rattle.member_queries.specs.FirstNames.{without_repeats, first_names}
 
 -- a name, where it is new
 abbrev pub new_name : Bool → Name → List Name

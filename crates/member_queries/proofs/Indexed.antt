@@ -18,7 +18,7 @@ use Rattle.mj_rules.proofs.OneAnswer.{decl_stands}
 use Rattle.mj_rules.proofs.Sets.{names_compare, from_set, to_set}
 use Rattle.recorder.specs.Projects.{Project}
 use Rattle.query_rules.specs.Items.{class_at, index_row, index_of}
-use Rattle.member_queries.specs.Facts.{is_listed}
+use Rattle.member_queries.specs.Supers.{is_listed}
 
 abbrev pub AreDeclared : List ClassDecl → List Name → Type 0
 AreDeclared cs ns = (n : Name) → In n ns → (k : ClassDecl) × (decl cs n ≡ Some k)

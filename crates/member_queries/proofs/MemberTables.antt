@@ -1,11 +1,10 @@
 -- The tables along a chain while they are built, and the order of their rows.
-use Rattle.std.proofs.Common.{◌≡◌, ℕ, ◌+◌, ◌<◌, length, take, drop, get_or, add-one, drop-cons, List, [], ◌∷◌, ◌++◌, map, Option, Some, None, cond, refl, sym, ap, ◌∙◌, subst, append_assoc, append-nil}
+use Rattle.std.proofs.Common.{◌≡◌, ℕ, ◌+◌, ◌<◌, length, take, drop, get_or, add-one, drop-cons, List, [], ◌∷◌, ◌++◌, map, Option, Some, None, refl, sym, ap, ◌∙◌, subst, append_assoc, append-nil}
 use Rattle.std.specs.Prelude.{Contains}
 use Rattle.std.specs.Option.{option_or}
 use Rattle.std.specs.List.{AllByRecursion}
 use Rattle.std.specs.List.Sorted.{IsStrictlySortedBy}
-use Rattle.std.specs.Map.{lookup, keys_of, values_of}
-use Rattle.std.specs.Ordering.{eq_by_cmp}
+use Rattle.std.specs.Map.{keys_of, values_of}
 use Rattle.std.specs.FinMap as names
 use Rattle.std.proofs.lemmas.List.{take_more, map-append}
 use Rattle.std.proofs.lemmas.Cmp.{nat_list_cmp_total, eq_by_cmp_equiv}
@@ -20,10 +19,12 @@ use Rattle.mj_answer.specs.AnswerValues.{MethodRowValue, ClassTableValue}
 use Rattle.mj_members.specs.Rows.{rows_by, SayAlike}
 use Rattle.mj_members.specs.Tables.{own_rows, firsts}
 use Rattle.mj_classes.specs.Tables.{AreAscending}
-use Rattle.mj_members.proofs.Rows.{name_order, under-append, sorted_rows}
+use Rattle.mj_members.proofs.Rows.{name_order, under-append, sorted_rows, values_rows}
 use Rattle.mj_members.proofs.Tables.{by_bytes, under, under_first, firsts_are}
-use Rattle.mj_classes.proofs.Tables.{firsts_ascend, all_append}
+use Rattle.mj_classes.proofs.Tables.{firsts_ascend, all_append, under_lookup, own_named, named_names}
 use Rattle.mj_rules.specs.Tables.{field_row}
+use Rattle.mj_rules.proofs.TableLaws.{ascend_by_names}
+use Rattle.item_ids.proofs.Lists.{all_from}
 use Rattle.result_bytes.specs.Payloads.{HeaderValue, SignatureValue}
 use Rattle.recorder.specs.Programs.{Prog, IsAt, Halts, Goes, GivesUp, each}
 use Rattle.recorder.specs.Recording.{Recording}
@@ -31,24 +32,16 @@ use Rattle.recorder.specs.declared.runner.RunFault.{RunFault}
 use Rattle.recorder.specs.declared.runner.RunFault.TheVariants.{OutOfMemory}
 use Rattle.recorder.proofs.Recorded.{all_at}
 use Rattle.recorder.proofs.Rules.{each_map, halts_memory}
-use Rattle.member_queries.specs.Members.{Link, fields_of, methods_of, rows_along, fields_told, methods_told, with_types, types_step, table_steps}
+use Rattle.member_queries.specs.Members.{Link, fields_of_header, methods_of_header, rows_along, nearest_fields, nearest_methods, with_types, types_step, table_steps}
 use Rattle.member_queries.specs.MemberTables.{AddsTypes}
-use Rattle.member_queries.proofs.Tables.{all_from, map_twice}
+use Rattle.member_queries.proofs.Tables.{map_twice}
 
 -- ---- lists in the order of their names
 
 module _ {X : Type 0} (name : X → Name) where
-  all_behind : (n : Name) (xs : List X) → AllByRecursion (NameBefore n) (map name xs) → AllByRecursion (λ x. NameBefore n (name x)) xs
-  all_behind n [] h = tt
-  all_behind n (x ∷ xs) h = (h.0, all_behind n xs h.1)
-
   names_behind : (n : Name) (xs : List X) → AllByRecursion (λ x. NameBefore n (name x)) xs → AllByRecursion (NameBefore n) (map name xs)
   names_behind n [] h = tt
   names_behind n (x ∷ xs) h = (h.0, names_behind n xs h.1)
-
-  pub by_names : (xs : List X) → IsAscendingBy NameBefore (map name xs) → IsAscendingByName name xs
-  by_names [] h = tt
-  by_names (x ∷ xs) h = (all_behind (name x) xs h.0, by_names xs h.1)
 
   pub names_by : (xs : List X) → IsAscendingByName name xs → IsAscendingBy NameBefore (map name xs)
   names_by [] h = tt
@@ -96,10 +89,6 @@ link_added {X} {A} seen name own rows after ls more l h added is n =
     ∙ (under-append n (rows_by seen rows) own_rows_here ∙ ap (λ o. option_or o (under n own_rows_here)) (h n) ∙ sym (under-append n (rows_along name own ls) own_rows_here))
     ∙ ap (under n) (sym all)
 
-values_rows : {X A : Type 0} (view : X → A) (es : List (Bor Name × X)) → values_of (rows_by view es) ≡ map view (values_of es)
-values_rows view [] = refl
-values_rows view (e ∷ es) = ap (λ ys. view e.1 ∷ ys) (values_rows view es)
-
 -- the values of a map that says what the headers say
 pub table_is : {X A : Type 0} (seen : X → Name × A) (name : A → Name) (own : Option HeaderValue → List A) (rows : List (Bor Name × X)) (xs : List X) (ls : List Link)
     → IsStrictlySortedBy name_order (keys_of rows) → SayAlike (rows_by seen rows) (rows_along name own ls) → xs ≡ values_of rows → map seen xs ≡ firsts (rows_along name own ls)
@@ -107,26 +96,13 @@ table_is seen name own rows xs ls up h is = ap (map seen) is ∙ (sym (values_ro
 
 -- ---- the order of what they have
 
-under_lookup : {A : Type 0} (n : Name) (es : List (Name × A)) → under n es ≡ lookup (eq_by_cmp by_bytes n) es
-under_lookup n [] = refl
-under_lookup n (e ∷ es) = ap (λ o. cond (eq_by_cmp by_bytes n e.0) (Some e.1) o) (under_lookup n es)
-
 module _ {A : Type 0} (name : A → Name) (own : Option HeaderValue → List A) where
   abbrev IsNamed : Name × (Name × A) → Type 0
   IsNamed e = e.0 ≡ name e.1.1
 
-  own_named : (owner : Name) (xs : List A) → AllByRecursion IsNamed (own_rows name owner xs)
-  own_named owner [] = tt
-  own_named owner (x ∷ xs) = (refl, own_named owner xs)
-
   along_named : (ls : List Link) → AllByRecursion IsNamed (rows_along name own ls)
   along_named [] = tt
-  along_named (l ∷ ls) = all_append IsNamed (own_rows name l.0 (own l.1)) (rows_along name own ls) (own_named l.0 (own l.1)) (along_named ls)
-
-  same_names : (es : List (Name × (Name × A))) → AllByRecursion IsNamed es → map (λ (r : Name × A). name r.1) (values_of es) ≡ keys_of es
-  same_names [] all = refl
-  same_names (e ∷ es) all =
-      ap (λ (n : Name). n ∷ map (λ (r : Name × A). name r.1) (values_of es)) (sym all.0) ∙ ap (λ (ns : List Name). e.0 ∷ ns) (same_names es all.1)
+  along_named (l ∷ ls) = all_append IsNamed (own_rows name l.0 (own l.1)) (rows_along name own ls) (own_named name l.0 (own l.1)) (along_named ls)
 
   module _ (ls : List Link) where
     abbrev all : List (Name × (Name × A))
@@ -146,23 +122,23 @@ module _ {A : Type 0} (name : A → Name) (own : Option HeaderValue → List A) 
     pub firsts_in_order : IsAscendingBy NameBefore (map (λ (r : Name × A). name r.1) (firsts all))
     firsts_in_order =
         let named = all_from IsNamed table (λ e h. all_at IsNamed all e (was_told e h) (along_named ls)) in
-        subst (IsAscendingBy NameBefore) (sym (same_names table named)) (ascending_names (keys_of table) (firsts_ascend all))
+        subst (IsAscendingBy NameBefore) (sym (named_names (λ (r : Name × A). name r.1) table named)) (ascending_names (keys_of table) (firsts_ascend all))
 
 -- the rows of the fields ascend
-pub fields_ascend : (ls : List Link) → IsAscendingByName (λ row. row.name) (map field_row (fields_told ls))
-unfolding fields_told
+pub fields_ascend : (ls : List Link) → IsAscendingByName (λ row. row.name) (map field_row (nearest_fields ls))
+unfolding nearest_fields
 fields_ascend ls =
-    let rs : List (Name × Field) = firsts (rows_along (λ (f : Field). f.name) fields_of ls) in
-    by_names (λ row. row.name) (map field_row rs)
-    (subst (IsAscendingBy NameBefore) (sym (map_twice field_row (λ row. row.name) rs)) (firsts_in_order (λ (f : Field). f.name) fields_of ls))
+    let rs : List (Name × Field) = firsts (rows_along (λ (f : Field). f.name) fields_of_header ls) in
+    ascend_by_names (λ row. row.name) (map field_row rs)
+    (subst (IsAscendingBy NameBefore) (sym (map_twice field_row (λ row. row.name) rs)) (firsts_in_order (λ (f : Field). f.name) fields_of_header ls))
 
 -- so do the methods
-pub methods_ascend : {X : Type 0} (view : X → Name × Name) (xs : List X) (ls : List Link) → map view xs ≡ methods_told ls → IsAscendingByName (λ x. (view x).1) xs
-unfolding methods_told
+pub methods_ascend : {X : Type 0} (view : X → Name × Name) (xs : List X) (ls : List Link) → map view xs ≡ nearest_methods ls → IsAscendingByName (λ x. (view x).1) xs
+unfolding nearest_methods
 methods_ascend view xs ls is =
-    by_names (λ x. (view x).1) xs
+    ascend_by_names (λ x. (view x).1) xs
     (subst (IsAscendingBy NameBefore) (map_twice view (λ (r : Name × Name). r.1) xs)
-    (subst (λ (rs : List (Name × Name)). IsAscendingBy NameBefore (map (λ (r : Name × Name). r.1) rs)) (sym is) (firsts_in_order (λ (n : Name). n) methods_of ls)))
+    (subst (λ (rs : List (Name × Name)). IsAscendingBy NameBefore (map (λ (r : Name × Name). r.1) rs)) (sym is) (firsts_in_order (λ (n : Name). n) methods_of_header ls)))
 
 -- ---- the rows of methods, one after the other
 
@@ -192,7 +168,7 @@ order_more {X} view xs i x old new lt is adds h =
 
 -- at the end
 pub rows_ascend : (rows : List MethodRowValue) (rest : List Name) → IsAscendingBy NameBefore (row_names rows ++ rest) → IsAscendingByName (λ row. row.name) rows
-rows_ascend rows rest h = by_names (λ row. row.name) rows (ascend_before NameBefore (row_names rows) rest h)
+rows_ascend rows rest h = ascend_by_names (λ row. row.name) rows (ascend_before NameBefore (row_names rows) rest h)
 
 -- ---- a loop over what is seen of other items
 
@@ -205,9 +181,9 @@ module _ {A B S D : Type 0} (step : B → S → (S → Prog) → Prog) (view : A
 
 -- ---- the table of a chain
 
-module _ {D : Type 0} (ls : List Link) (ms : List (Name × Name)) (is : ms ≡ methods_told ls) (old new : Recording D) where
+module _ {D : Type 0} (ls : List Link) (ms : List (Name × Name)) (is : ms ≡ nearest_methods ls) (old new : Recording D) where
   abbrev with_fields : List MethodRowValue → ClassTableValue
-  with_fields rows = record { fields = map field_row (fields_told ls); methods = rows }
+  with_fields rows = record { fields = map field_row (nearest_fields ls); methods = rows }
 
   begins : (prog : Prog) (k : ClassTableValue → Prog) → IsAt prog old (table_steps ls k) → IsAt prog old (each types_step ms [] (λ rows. k (with_fields rows)))
   begins prog k w = subst (λ (xs : List (Name × Name)). IsAt prog old (each types_step xs [] (λ rows. k (with_fields rows)))) (sym is) w

@@ -4,6 +4,7 @@ use Rattle.std.specs.Prelude.{Contains, flat_map}
 use Rattle.std.proofs.lemmas.Option.{none-some}
 use Rattle.item_ids.specs.declared.key.Key.{Key}
 use Rattle.item_ids.specs.declared.key.Key.TheVariants as keys
+use Rattle.item_ids.proofs.Lists.{all_from}
 use Rattle.mj_tree.specs.Trees.{Name, Statement, Method}
 use Rattle.mj_tree.specs.declared.tree.Field.{Field}
 use Rattle.mj_answer.specs.AnswerValues.{MethodRowValue, ClassTableValue}
@@ -29,14 +30,14 @@ use Rattle.recorder.proofs.Rules.{fold_of, each_fits, each_map}
 use Rattle.query_rules.specs.Items.{class_at, chain_value, body_at}
 use Rattle.query_rules.specs.Meaning.{mean}
 use Rattle.query_rules.specs.Reads.{row_signature, chain_headers, signatures, asked_keys, reads}
-use Rattle.member_queries.specs.Facts.{header_in, chain_in, signature_in}
-use Rattle.member_queries.specs.Members.{Link, fields_told, methods_told, link_step, with_types, types_step, table_steps, chain_table_steps, members_by, members_steps}
+use Rattle.result_bytes.specs.Parts.{header_in, signature_in, supers_in}
+use Rattle.member_queries.specs.Members.{Link, nearest_fields, nearest_methods, link_step, with_types, types_step, table_steps, chain_table_steps, members_by, members_steps}
 use Rattle.member_queries.specs.Laws.{MembersTies}
 use Rattle.member_queries.proofs.Passes.{Passes, Stays, Reads, passes_each, passes_then, flat_one, ties_by}
 use Rattle.member_queries.proofs.Indexed.{AreDeclared}
 use Rattle.member_queries.proofs.Declared.{main_has_none}
 use Rattle.member_queries.proofs.FaultSets.{fold_append}
-use Rattle.member_queries.proofs.Tables.{all_from, map_twice, told_link, fields_same, named_method, methods_same}
+use Rattle.member_queries.proofs.Tables.{map_twice, told_link, fields_same, named_method, methods_same}
 
 -- what each item adds, in order
 one_each : {A B : Type 0} (f : A → B) (xs : List A) → fold_of (λ a list. list ++ f a ∷ []) xs [] ≡ map f xs
@@ -100,9 +101,9 @@ module _ (profile : Profile) (p : Project) where
     table_pass names end q is =
         let all : AreDeclared cs names = λ x i. all_declared cs names names end is.links x i in
         let classes = ancestry_of_chain cs c names end is in
-        let fields : fields_told (map (told_link cs) names) ≡ fields_along (ancestry cs c) = fields_same cs names all ∙ ap fields_along (sym classes) in
-        let methods : methods_told (map (told_link cs) names) ≡ map (named_method cs) (methods_along (ancestry cs c)) = methods_same cs names all ∙ ap (λ ks. map (named_method cs) (methods_along ks)) (sym classes) in
-        subst (λ (ms : List (Name × Name)). Passes (mean profile p) (each types_step ms [] (λ rows. q (record { fields = map field_row (fields_told (map (told_link cs) names)); methods = rows }))) (signatures p c) (q (table_of cs c))) (sym methods)
+        let fields : nearest_fields (map (told_link cs) names) ≡ fields_along (ancestry cs c) = fields_same cs names all ∙ ap fields_along (sym classes) in
+        let methods : nearest_methods (map (told_link cs) names) ≡ map (named_method cs) (methods_along (ancestry cs c)) = methods_same cs names all ∙ ap (λ ks. map (named_method cs) (methods_along ks)) (sym classes) in
+        subst (λ (ms : List (Name × Name)). Passes (mean profile p) (each types_step ms [] (λ rows. q (record { fields = map field_row (nearest_fields (map (told_link cs) names)); methods = rows }))) (signatures p c) (q (table_of cs c))) (sym methods)
         (subst (λ (fs : List (Name × Field)). Passes (mean profile p) (each types_step (map (named_method cs) (methods_along (ancestry cs c))) [] (λ rows. q (record { fields = map field_row fs; methods = rows }))) (signatures p c) (q (table_of cs c))) (sym fields)
         (rows_pass (λ rows. q (record { fields = map field_row (fields_along (ancestry cs c)); methods = rows }))))
 
@@ -128,18 +129,18 @@ module _ (profile : Profile) (p : Project) where
 
     passes : Passes (mean profile p) (members_steps c Ret) (asked_keys profile p (keys.Members c)) (Ret (mean profile p (keys.Members c)))
     unfolding mean asked_keys
-    passes = Reads (keys.Supers c) (λ v. members_by (chain_in v) Ret) (chain_headers p c ++ signatures p c) (Ret (mean profile p (keys.Members c))) (by_class (class_at p c) refl)
+    passes = Reads (keys.Supers c) (λ v. members_by (supers_in v) Ret) (chain_headers p c ++ signatures p c) (Ret (mean profile p (keys.Members c))) (by_class (class_at p c) refl)
 
 -- ---- ranks and kinds
 
 fits : (c : Name) → Fits (keys.Members c) (members_steps c Ret)
 unfolding Fits
-fits c = (omega arith, λ v. by_chain (chain_in v))
+fits c = (omega arith, λ v. by_chain (supers_in v))
   where
     by_links : (links : List Link) → Fits (keys.Members c) (table_steps links (λ table. Ret (values.Members (Some table))))
     by_links links =
-        each_fits (keys.Members c) types_step (λ m rows q g. (omega arith, λ w. g (with_types m rows (signature_in w)))) (methods_told links) []
-        (λ rows. Ret (values.Members (Some (record { fields = map field_row (fields_told links); methods = rows })))) (λ rows. refl)
+        each_fits (keys.Members c) types_step (λ m rows q g. (omega arith, λ w. g (with_types m rows (signature_in w)))) (nearest_methods links) []
+        (λ rows. Ret (values.Members (Some (record { fields = map field_row (nearest_fields links); methods = rows })))) (λ rows. refl)
 
     by_chain : (o : Option ChainValue) → Fits (keys.Members c) (members_by o Ret)
     by_chain None = refl

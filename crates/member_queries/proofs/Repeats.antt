@@ -8,7 +8,7 @@ use Rattle.mj_project.proofs.RepeatLemmas.{Contains-is_in, is_in-Contains}
 use Rattle.recorder.proofs.Seen.{unseen_last}
 use Rattle.recorder.specs.Backed.{is_seen}
 use Rattle.query_rules.specs.Reads.{first_keys}
-use Rattle.member_queries.specs.Facts.{without_repeats, first_names}
+use Rattle.member_queries.specs.FirstNames.{without_repeats, first_names}
 
 seen_grows : (ks : List Key) (k x : Key) → is_seen ks x ≡ true → is_seen (ks ++ k ∷ []) x ≡ true
 seen_grows ks k x h = by_test (is_seen (ks ++ k ∷ []) x) refl

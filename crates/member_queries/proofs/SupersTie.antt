@@ -3,6 +3,7 @@ use Rattle.std.proofs.Common.{◌≡◌, ℕ, zero, suc, ◌<◌, Bool, true, fa
 use Rattle.std.specs.Prelude.{Contains}
 use Rattle.item_ids.specs.declared.key.Key.{Key}
 use Rattle.item_ids.specs.declared.key.Key.TheVariants as keys
+use Rattle.item_ids.specs.Inputs.{rank}
 use Rattle.mj_tree.specs.Trees.{Name}
 use Rattle.mj_members.specs.Declarations.{ClassDecl}
 use Rattle.mj_classes.specs.Declarations.{decl}
@@ -15,15 +16,14 @@ use Rattle.result_bytes.specs.Payloads.{HeaderValue, ChainValue}
 use Rattle.result_bytes.specs.declared.value.Value.TheVariants as values
 use Rattle.profiles.specs.declared.profile.Profile.{Profile}
 use Rattle.recorder.specs.Projects.{Project}
-use Rattle.recorder.specs.Backed.{rank}
 use Rattle.recorder.specs.Programs.{Prog, Ret, Fits}
 use Rattle.query_rules.specs.Items.{class_at, index_of, end_value, chain_value}
 use Rattle.query_rules.specs.Meaning.{mean}
 use Rattle.query_rules.specs.Reads.{chain_headers, asked_keys, reads}
 use Rattle.member_queries.specs.declared.supers.Climb.{Climb}
 use Rattle.member_queries.specs.declared.supers.Climb.TheVariants.{At, Over}
-use Rattle.member_queries.specs.Facts.{rows_in, is_listed, header_in}
-use Rattle.member_queries.specs.Supers.{chain, climb_by, climb_on, chain_steps, listed_steps, supers_steps}
+use Rattle.result_bytes.specs.Parts.{header_in, index_in}
+use Rattle.member_queries.specs.Supers.{is_listed, chain, climb_by, climb_on, chain_steps, listed_steps, supers_steps}
 use Rattle.member_queries.specs.Laws.{SupersTies}
 use Rattle.member_queries.proofs.Passes.{Passes, Stays, Reads, ties_by}
 use Rattle.member_queries.proofs.Indexed.{listed, no_more}
@@ -95,7 +95,7 @@ module _ (profile : Profile) (p : Project) where
 
   passes : (c : Name) → Passes (mean profile p) (supers_steps c Ret) (asked_keys profile p (keys.Supers c)) (Ret (mean profile p (keys.Supers c)))
   unfolding mean asked_keys
-  passes c = Reads keys.Index (λ v. listed_steps (is_listed (rows_in v) c) (rows_in v) c Ret) (chain_headers p c) (Ret (mean profile p (keys.Supers c))) (by_class c (class_at p c) refl)
+  passes c = Reads keys.Index (λ v. listed_steps (is_listed (index_in v) c) (index_in v) c Ret) (chain_headers p c) (Ret (mean profile p (keys.Supers c))) (by_class c (class_at p c) refl)
 
 -- ---- ranks and kinds
 
@@ -111,7 +111,7 @@ module _ (q : Key) (above : 3 < rank q) where
 
 fits : (c : Name) → Fits (keys.Supers c) (supers_steps c Ret)
 unfolding Fits
-fits c = (omega arith, λ v. by_test (is_listed (rows_in v) c) (rows_in v))
+fits c = (omega arith, λ v. by_test (is_listed (index_in v) c) (index_in v))
   where
     by_test : (b : Bool) (rows : List IndexRow) → Fits (keys.Supers c) (listed_steps b rows c Ret)
     by_test true rows = chain_fits (keys.Supers c) (omega arith) (length rows) rows [] c (λ x. Ret (values.Supers (Some x))) (λ x. refl)

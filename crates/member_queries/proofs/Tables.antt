@@ -1,29 +1,23 @@
 -- Tables from headers are those of the declarations.
 use Rattle.std.proofs.Common.{◌≡◌, Bool, true, false, List, [], ◌∷◌, ◌++◌, map, Option, Some, option_map, cond, refl, sym, ap, ap₂, subst, ◌∙◌, inl, inr, ◌&&◌}
-use Rattle.std.specs.Prelude.{Contains, T}
-use Rattle.std.specs.List.{AllByRecursion, filter_map}
+use Rattle.std.specs.Prelude.{T}
+use Rattle.std.specs.List.{filter_map}
 use Rattle.std.specs.Map.{values_of}
 use Rattle.std.specs.FinMap as names
 use Rattle.std.specs.FinMap.Entries as entries
 use Rattle.std.specs.Ordering.{eq_by_cmp, is_lt}
-use Rattle.std.proofs.lemmas.List.{map-append}
+use Rattle.std.proofs.lemmas.List.{map-append, map-id}
 use Rattle.mj_tree.specs.Trees.{Name, Method}
 use Rattle.mj_tree.specs.declared.tree.Field.{Field}
-use Rattle.mj_answer.proofs.Alike.{Contains-first, Contains-later}
 use Rattle.mj_members.specs.Declarations.{ClassDecl}
 use Rattle.mj_classes.specs.Declarations.{decl}
 use Rattle.mj_members.specs.Tables.{own_rows, all_along, firsts, fields_along, methods_along}
 use Rattle.mj_classes.proofs.Climb.{decl_name}
-use Rattle.mj_members.proofs.Rows.{map_same}
 use Rattle.mj_members.proofs.Tables.{by_bytes, under, under_first, firsts_are}
 use Rattle.result_bytes.specs.Payloads.{HeaderValue}
 use Rattle.query_rules.specs.Items.{header_of}
-use Rattle.member_queries.specs.Members.{Link, fields_of, methods_of, rows_along, fields_told, methods_told}
+use Rattle.member_queries.specs.Members.{Link, fields_of_header, methods_of_header, rows_along, nearest_fields, nearest_methods}
 use Rattle.member_queries.proofs.Indexed.{AreDeclared}
-
-pub all_from : {A : Type 0} (P : A → Type 0) (xs : List A) → ((x : A) → Contains xs x → P x) → AllByRecursion P xs
-all_from P [] h = tt
-all_from P (x ∷ xs) h = (h x (Contains-first x xs), all_from P xs (λ y c. h y (Contains-later x xs y c)))
 
 pub map_twice : {A B C : Type 0} (f : A → B) (g : B → C) (xs : List A) → map g (map f xs) ≡ map (λ x. g (f x)) xs
 map_twice f g [] = refl
@@ -89,16 +83,16 @@ module _ (cs : List ClassDecl) where
     pub table_seen : (ns : List Name) → AreDeclared cs ns → firsts (rows_along other told (map told_link ns)) ≡ map seen_row (firsts (all_along name own (filter_map (decl cs) ns)))
     table_seen ns h = ap firsts (along_seen ns h) ∙ firsts_seen seen_row (all_along name own (filter_map (decl cs) ns))
 
-  pub fields_same : (ns : List Name) → AreDeclared cs ns → fields_told (map told_link ns) ≡ fields_along (filter_map (decl cs) ns)
-  unfolding fields_told fields_along
+  pub fields_same : (ns : List Name) → AreDeclared cs ns → nearest_fields (map told_link ns) ≡ fields_along (filter_map (decl cs) ns)
+  unfolding nearest_fields fields_along
   fields_same ns h =
-      table_seen (λ (f : Field). f.name) (λ (k : ClassDecl). k.fields) (λ (f : Field). f.name) fields_of (λ (f : Field). f) (λ k. sym (map_same k.fields)) (λ f. refl) ns h
-      ∙ map_same (firsts (all_along (λ (f : Field). f.name) (λ (k : ClassDecl). k.fields) (filter_map (decl cs) ns)))
+      table_seen (λ (f : Field). f.name) (λ (k : ClassDecl). k.fields) (λ (f : Field). f.name) fields_of_header (λ (f : Field). f) (λ k. sym (map-id k.fields)) (λ f. refl) ns h
+      ∙ map-id (firsts (all_along (λ (f : Field). f.name) (λ (k : ClassDecl). k.fields) (filter_map (decl cs) ns)))
 
   -- a method's owner and name
   abbrev pub named_method : Name × Method → Name × Name
   named_method r = (r.0, r.1.name)
 
-  pub methods_same : (ns : List Name) → AreDeclared cs ns → methods_told (map told_link ns) ≡ map named_method (methods_along (filter_map (decl cs) ns))
-  unfolding methods_told methods_along
-  methods_same ns h = table_seen (λ (m : Method). m.name) (λ (k : ClassDecl). k.methods) (λ (n : Name). n) methods_of (λ (m : Method). m.name) (λ k. refl) (λ m. refl) ns h
+  pub methods_same : (ns : List Name) → AreDeclared cs ns → nearest_methods (map told_link ns) ≡ map named_method (methods_along (filter_map (decl cs) ns))
+  unfolding nearest_methods methods_along
+  methods_same ns h = table_seen (λ (m : Method). m.name) (λ (k : ClassDecl). k.methods) (λ (n : Name). n) methods_of_header (λ (m : Method). m.name) (λ k. refl) (λ m. refl) ns h

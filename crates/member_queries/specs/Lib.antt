@@ -1,4 +1,4 @@
-pub mod Facts
+pub mod FirstNames
 pub mod Met
 pub mod Supers
 pub mod Members

@@ -8,22 +8,22 @@ use Rattle.mj_answer.specs.AnswerValues.{MethodRowValue, ClassTableValue}
 use Rattle.mj_members.specs.Tables.{own_rows, firsts}
 use Rattle.mj_rules.specs.Tables.{field_row}
 use Rattle.result_bytes.specs.Payloads.{HeaderValue, SignatureValue, ChainValue}
+use Rattle.result_bytes.specs.Parts.{header_in, signature_in, supers_in}
 use Rattle.result_bytes.specs.declared.value.Value.{Value}
 use Rattle.result_bytes.specs.declared.value.Value.TheVariants as values
 use Rattle.recorder.specs.Programs.{Prog, Ask, each}
-use Rattle.member_queries.specs.Facts.{header_in, chain_in, signature_in}
 
 -- a class of a chain, and its header
 abbrev pub Link : Type 0
 Link = Name × Option HeaderValue
 
-abbrev pub fields_of : Option HeaderValue → List Field
-fields_of None = []
-fields_of (Some h) = h.fields
+abbrev pub fields_of_header : Option HeaderValue → List Field
+fields_of_header None = []
+fields_of_header (Some h) = h.fields
 
-abbrev pub methods_of : Option HeaderValue → List Name
-methods_of None = []
-methods_of (Some h) = h.methods
+abbrev pub methods_of_header : Option HeaderValue → List Name
+methods_of_header None = []
+methods_of_header (Some h) = h.methods
 
 -- all that these classes declare, in order
 abbrev pub rows_along : {A : Type 0} → (A → Name) → (Option HeaderValue → List A) → List Link
@@ -32,11 +32,11 @@ rows_along name own [] = []
 rows_along name own (l ∷ ls) = own_rows name l.0 (own l.1) ++ rows_along name own ls
 
 -- the nearest field of each name with its owner, ascending by name, and the nearest methods
-unfoldable pub fields_told : List Link → List (Name × Field)
-fields_told links = firsts (rows_along (λ f. f.name) fields_of links)
+unfoldable pub nearest_fields : List Link → List (Name × Field)
+nearest_fields links = firsts (rows_along (λ f. f.name) fields_of_header links)
 
-unfoldable pub methods_told : List Link → List (Name × Name)
-methods_told links = firsts (rows_along (λ n. n) methods_of links)
+unfoldable pub nearest_methods : List Link → List (Name × Name)
+nearest_methods links = firsts (rows_along (λ n. n) methods_of_header links)
 
 -- the chain with one more class
 abbrev pub link_step : Name → List Link → (List Link → Prog) → Prog
@@ -57,8 +57,8 @@ types_step found rows k =
 -- the table of a class whose chain has these headers
 abbrev pub table_steps : List Link → (ClassTableValue → Prog) → Prog
 table_steps links k =
-    each types_step (methods_told links) []
-    (λ rows. k (record { fields = map field_row (fields_told links); methods = rows }))
+    each types_step (nearest_methods links) []
+    (λ rows. k (record { fields = map field_row (nearest_fields links); methods = rows }))
 
 abbrev pub chain_table_steps : List Name → (ClassTableValue → Prog) → Prog
 chain_table_steps classes k = each link_step classes [] (λ links. table_steps links k)
@@ -69,4 +69,4 @@ members_by (Some chain) k =
     chain_table_steps chain.classes (λ table. k (values.Members (Some table)))
 
 abbrev pub members_steps : Name → (Value → Prog) → Prog
-members_steps c k = Ask (keys.Supers c) (λ v. members_by (chain_in v) k)
+members_steps c k = Ask (keys.Supers c) (λ v. members_by (supers_in v) k)

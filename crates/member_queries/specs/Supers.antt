@@ -1,6 +1,8 @@
 -- The chain of a class: the index, then, where it has the class, the header of each class of the
 -- chain.
 use Rattle.std.specs.Prelude.{ℕ, zero, suc, Bool, List, [], ◌∷◌, ◌++◌, length, Option, Some, None, option_and_then, if◌then◌else◌}
+use Rattle.std.specs.List.{list_any}
+use Rattle.std.specs.Str.{bytes_eq}
 use Rattle.item_ids.specs.declared.key.Key.TheVariants as keys
 use Rattle.mj_tree.specs.Trees.{Name}
 use Rattle.mj_classes.specs.Chains.{is_in}
@@ -8,12 +10,16 @@ use Rattle.result_bytes.specs.declared.files.IndexRow.{IndexRow}
 use Rattle.result_bytes.specs.declared.parts.ChainEnd.{ChainEnd}
 use Rattle.result_bytes.specs.declared.parts.ChainEnd.TheVariants.{Top, Undeclared, Repeated}
 use Rattle.result_bytes.specs.Payloads.{ChainValue}
+use Rattle.result_bytes.specs.Parts.{header_in, index_in}
 use Rattle.result_bytes.specs.declared.value.Value.{Value}
 use Rattle.result_bytes.specs.declared.value.Value.TheVariants as values
 use Rattle.recorder.specs.Programs.{Prog, Ask}
 use Rattle.member_queries.specs.declared.supers.Climb.{Climb}
 use Rattle.member_queries.specs.declared.supers.Climb.TheVariants.{At, Over}
-use Rattle.member_queries.specs.Facts.{rows_in, is_listed, header_in}
+
+-- an index has a class
+abbrev pub is_listed : List IndexRow → Name → Bool
+is_listed rows c = list_any (λ row. bytes_eq row.class c) rows
 
 abbrev pub chain : List Name → ChainEnd → ChainValue
 chain names end = record { classes = names; end = end }
@@ -51,4 +57,4 @@ listed_steps listed rows c k =
     else k (values.Supers None)
 
 abbrev pub supers_steps : Name → (Value → Prog) → Prog
-supers_steps c k = Ask keys.Index (λ v. listed_steps (is_listed (rows_in v) c) (rows_in v) c k)
+supers_steps c k = Ask keys.Index (λ v. listed_steps (is_listed (index_in v) c) (index_in v) c k)

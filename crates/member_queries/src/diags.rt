@@ -3,17 +3,15 @@ ghost use Rattle.std.specs.Prelude.{◌≡◌, ◌++◌, ◌∷◌, [], option_c
 ghost use Rattle.answer_bytes.specs.Storable.{AreClassFaults};
 ghost use Rattle.mj_rules.specs.ClassFaults.{main_word};
 ghost use Rattle.recorder.specs.Programs.{Goes, GivesUp, each};
-ghost use Rattle.member_queries.specs.Facts.{first_names};
-ghost use Rattle.member_queries.specs.Diags.{bodies_in, body_step, declared_steps, diags_by, diags_steps};
+ghost use Rattle.member_queries.specs.FirstNames.{first_names};
+ghost use Rattle.member_queries.specs.Diags.{bodies_in, body_step, declared_faults_steps, diags_by, diags_steps};
 
-use crate::facts::{faults_in, header_in};
 use answer_bytes::Faults;
 use body_query::class_fault_set;
-use body_questions::read;
 use item_ids::Key;
 use mj_answer::{Diagnostic, copy_faults};
 use mj_lexer::Name;
-use recorder::{Reader, Recorder, RunFault};
+use recorder::{Reader, Recorder, RunFault, read};
 use result_bytes::{Header, Value};
 use std::alloc::{AllocError, Global};
 use std::collections::BTreeSet;
@@ -100,7 +98,7 @@ fn ask_body<D: Reader>(
 {
     let key = Key::CheckBody(class.copy(alloc)?, method.copy(alloc)?);
     let answer = read(recorder, key)?;
-    add_faults(alloc, faults, faults_in(answer.value()))?;
+    add_faults(alloc, faults, answer.value().faults())?;
     Ok(())
 }
 
@@ -134,15 +132,15 @@ fn declared_faults<D: Reader>(
     class: &Name,
     header: &Header,
 ) -> Result<Faults, RunFault>
-    ensures ok { IfOk result (λ faults. Goes (declared_steps class.now header.now) recorder.old
+    ensures ok { IfOk result (λ faults. Goes (declared_faults_steps class.now header.now) recorder.old
         faults recorder.new) }
-    ensures err { IfErr result (λ e. GivesUp (declared_steps class.now header.now) recorder.old
+    ensures err { IfErr result (λ e. GivesUp (declared_faults_steps class.now header.now) recorder.old
         e recorder.new) }
     ensures follows { D.follows recorder.old.inner recorder.new.inner }
 {
     let bodies = bodies_in(alloc, header)?;
     let answer = read(recorder, Key::CheckClass(class.copy(alloc)?))?;
-    let faults = ask_bodies(alloc, recorder, class, &bodies, faults_in(answer.value()))?;
+    let faults = ask_bodies(alloc, recorder, class, &bodies, answer.value().faults())?;
     Ok(class_fault_set(faults))
 }
 
@@ -181,5 +179,5 @@ pub fn run_diags<D: Reader>(
     ensures follows { D.follows recorder.old.inner recorder.new.inner }
 {
     let answer = read(recorder, Key::Header(class.copy(alloc)?))?;
-    faults_by(alloc, recorder, class, header_in(answer.value()))
+    faults_by(alloc, recorder, class, answer.value().header())
 }

@@ -3,13 +3,11 @@
 #![tactic(auto)]
 
 mod diags;
-mod facts;
 mod laws;
 mod members;
 mod supers;
 
 pub use diags::run_diags;
-pub use facts::{chain_in, faults_in, header_in, rows_in, signature_in};
 pub use laws::{diags_ties, members_ties, supers_ties};
 pub use members::run_members;
 pub use supers::{Climb, run_supers};

@@ -1,29 +1,26 @@
 //! The fields and methods of a class.
 ghost use Rattle.std.specs.Prelude.{◌≡◌, ◌++◌, ◌∷◌, [], map, option_copied, IfOk, IfErr, OnOk};
 ghost use Rattle.std.specs.Arc.{arc_value};
-ghost use Rattle.std.specs.BTreeMap.{values, IsOrdered};
-ghost use Rattle.std.specs.Ordering.{nat_cmp};
-ghost use Rattle.std.specs.Cmp.Lexicographic.{slice_cmp};
 ghost use Rattle.mj_answer.specs.Order.{IsAscendingByName};
 ghost use Rattle.mj_members.specs.Classes.{field_member_view};
 ghost use Rattle.mj_members.specs.Rows.{field_rows as field_entries, SayAlike};
 ghost use Rattle.mj_members.specs.Tables.{own_rows};
 ghost use Rattle.mj_rules.specs.Tables.{field_row as field_row_of};
 ghost use Rattle.recorder.specs.Programs.{Goes, GivesUp, each};
-ghost use Rattle.member_queries.specs.Facts.{header_in as header_told};
-ghost use Rattle.member_queries.specs.Members.{fields_of, methods_of, fields_told, methods_told, link_step, with_types, types_step, table_steps, chain_table_steps, members_by, members_steps};
+ghost use Rattle.result_bytes.specs.Parts.{header_in};
+ghost use Rattle.member_queries.specs.Members.{fields_of_header, methods_of_header, nearest_fields, nearest_methods, link_step, with_types, types_step, table_steps, chain_table_steps, members_by, members_steps};
 ghost use Rattle.member_queries.specs.MemberTables.{member_name_view, member_names_view, name_rows, AddsTypes};
 
-use crate::facts::{chain_in, header_in, signature_in};
 use answer_bytes::Members;
-use body_questions::read;
 use fingerprint::Sealed;
 use item_ids::Key;
 use mj_answer::{ClassTable, FieldRow, MethodRow};
 use mj_classes::FieldMember;
 use mj_lexer::Name;
+use mj_members::in_order;
+use mj_rules::field_row;
 use mj_tree::{Field, copy_types};
-use recorder::{Reader, Recorder, RunFault};
+use recorder::{Reader, Recorder, RunFault, read};
 use result_bytes::{Signature, Supers, Value};
 use std::alloc::{AllocError, Global};
 use std::collections::BTreeMap;
@@ -39,7 +36,7 @@ struct Link<'c> {
 
 impl<'c> Model for Link<'c> {
     ghost use Rattle.std.specs.Arc.{arc_value};
-    ghost use Rattle.member_queries.specs.Facts.{header_in};
+    ghost use Rattle.result_bytes.specs.Parts.{header_in};
     ghost use Rattle.member_queries.specs.Members.{Link};
 
     ghost Value = { Link };
@@ -57,9 +54,9 @@ impl<'c> Link<'c> {
 
     /// The fields that the class itself declares.
     fn fields(&self) -> &[Field]
-        ensures { result.now ≡ fields_of self.now.1 }
+        ensures { result.now ≡ fields_of_header self.now.1 }
     {
-        match header_in(self.answer.value()) {
+        match self.answer.value().header() {
             Some(header) => header.fields(),
             None => &[],
         }
@@ -67,9 +64,9 @@ impl<'c> Link<'c> {
 
     /// The names of the methods that the class itself declares.
     fn methods(&self) -> &[Name]
-        ensures { result.now ≡ methods_of self.now.1 }
+        ensures { result.now ≡ methods_of_header self.now.1 }
     {
-        match header_in(self.answer.value()) {
+        match self.answer.value().header() {
             Some(header) => header.methods(),
             None => &[],
         }
@@ -90,7 +87,7 @@ fn add_link<'c>(
     answer: Arc<Sealed>,
 ) -> Result<(), AllocError>
     ensures { OnOk result
-        (links.new.items ≡ links.old.items ++ (class.now, header_told (arc_value answer)) ∷ []) }
+        (links.new.items ≡ links.old.items ++ (class.now, header_in (arc_value answer)) ∷ []) }
 {
     links.push(Link { class, answer })?;
     Ok(())
@@ -141,7 +138,7 @@ fn add_fields<'a>(
     ensures { OnOk result
         (SayAlike (field_entries rows.new.entries)
         (field_entries rows.old.entries
-        ++ own_rows (λ f. f.name) link.now.0 (fields_of link.now.1))) }
+        ++ own_rows (λ f. f.name) link.now.0 (fields_of_header link.now.1))) }
 {
     let owner = link.class();
     for field in link.fields() {
@@ -161,7 +158,7 @@ fn add_methods<'a>(
     ensures { OnOk result
         (SayAlike (name_rows rows.new.entries)
         (name_rows rows.old.entries
-        ++ own_rows (λ n. n) link.now.0 (methods_of link.now.1))) }
+        ++ own_rows (λ n. n) link.now.0 (methods_of_header link.now.1))) }
 {
     let owner = link.class();
     for name in link.methods() {
@@ -172,17 +169,9 @@ fn add_methods<'a>(
     Ok(())
 }
 
-/// The values of a map, in the order of the names.
-fn in_order<T: Copy>(alloc: Global, rows: &BTreeMap<&Name, T>) -> Result<Vec<T>, AllocError>
-    ensures values { IfOk result (λ v. v.items ≡ values rows.now) }
-    ensures ordered { IsOrdered (λ x y. slice_cmp nat_cmp x.now y.now) rows.now }
-{
-    rows.values().copied().collect(alloc)
-}
-
 /// The nearest field of each name, ascending by name.
 fn field_table<'a>(alloc: Global, links: &'a [Link]) -> Result<Vec<FieldMember<'a>>, AllocError>
-    ensures { IfOk result (λ v. map field_member_view v.items ≡ fields_told links.now) }
+    ensures { IfOk result (λ v. map field_member_view v.items ≡ nearest_fields links.now) }
 {
     let mut rows = BTreeMap::new(alloc);
     for link in links {
@@ -193,7 +182,7 @@ fn field_table<'a>(alloc: Global, links: &'a [Link]) -> Result<Vec<FieldMember<'
 
 /// The nearest method of each name, ascending by name.
 fn method_table<'a>(alloc: Global, links: &'a [Link]) -> Result<Vec<MemberName<'a>>, AllocError>
-    ensures { IfOk result (λ v. member_names_view v.items ≡ methods_told links.now) }
+    ensures { IfOk result (λ v. member_names_view v.items ≡ nearest_methods links.now) }
 {
     let mut rows = BTreeMap::new(alloc);
     for link in links {
@@ -202,20 +191,9 @@ fn method_table<'a>(alloc: Global, links: &'a [Link]) -> Result<Vec<MemberName<'
     in_order(alloc, &rows)
 }
 
-/// The row of a field.
-fn field_row(alloc: Global, member: &FieldMember) -> Result<FieldRow, AllocError>
-    ensures { IfOk result (λ row. row ≡ field_row_of (field_member_view member.now)) }
-{
-    Ok(FieldRow {
-        name: member.field.name.copy(alloc)?,
-        owner: member.owner.copy(alloc)?,
-        ty: member.field.ty.copy(alloc)?,
-    })
-}
-
 /// The rows of the nearest field of each name, ascending by name.
 fn field_rows(alloc: Global, links: &[Link]) -> Result<Vec<FieldRow>, AllocError>
-    ensures { IfOk result (λ rows. rows.items ≡ map field_row_of (fields_told links.now)) }
+    ensures { IfOk result (λ rows. rows.items ≡ map field_row_of (nearest_fields links.now)) }
 {
     let members = field_table(alloc, links)?;
     let mut rows = Vec::new(alloc);
@@ -283,7 +261,7 @@ fn ask_types<D: Reader>(
 {
     let key = Key::Sig(method.owner.copy(alloc)?, method.name.copy(alloc)?);
     let answer = read(recorder, key)?;
-    add_types(alloc, rows, method, signature_in(answer.value()))?;
+    add_types(alloc, rows, method, answer.value().signature())?;
     Ok(())
 }
 
@@ -313,7 +291,7 @@ fn members_of(alloc: Global, links: &[Link], methods: Vec<MethodRow>) -> Result<
     requires { IsAscendingByName (λ row. row.name) methods.items }
     ensures { IfOk result (λ members. members
         ≡ record {
-          fields = map field_row_of (fields_told links.now);
+          fields = map field_row_of (nearest_fields links.now);
           methods = methods.items;
         }) }
 {
@@ -389,5 +367,5 @@ pub fn run_members<D: Reader>(
     ensures follows { D.follows recorder.old.inner recorder.new.inner }
 {
     let answer = read(recorder, Key::Supers(class.copy(alloc)?))?;
-    members_for(alloc, recorder, chain_in(answer.value()))
+    members_for(alloc, recorder, answer.value().supers())
 }

@@ -3,14 +3,13 @@ ghost use Rattle.std.specs.Prelude.{◌≡◌, ◌++◌, ◌∷◌, [], length, 
 ghost use Rattle.mj_answer.specs.Order.{IsAscendingByName};
 ghost use Rattle.mj_classes.specs.Chains.{is_in};
 ghost use Rattle.recorder.specs.Programs.{Goes, GivesUp};
-ghost use Rattle.member_queries.specs.Facts.{is_listed as listed, header_in as header_told};
-ghost use Rattle.member_queries.specs.Supers.{chain, climb_by as climb_told, climb_step, chain_steps, listed_steps, supers_steps};
+ghost use Rattle.result_bytes.specs.Parts.{header_in};
+ghost use Rattle.member_queries.specs.Supers.{is_listed as listed, chain, climb_by as climb_told, climb_step, chain_steps, listed_steps, supers_steps};
 
-use crate::facts::{header_in, is_listed, rows_in};
-use body_questions::read;
 use item_ids::Key;
+use mj_answer::position_by_name;
 use mj_lexer::Name;
-use recorder::{Reader, Recorder, RunFault};
+use recorder::{Reader, Recorder, RunFault, read};
 use result_bytes::{ChainEnd, IndexRow, Supers, Value};
 use std::alloc::{AllocError, Global};
 use std::collections::BTreeSet;
@@ -79,6 +78,14 @@ impl Ascent {
     }
 }
 
+/// Whether rows of an index have a class.
+fn is_listed(rows: &[IndexRow], class: &Name) -> bool
+    requires { IsAscendingByName (λ row. row.class) rows.now }
+    ensures { result ≡ listed rows.now class.now }
+{
+    position_by_name(rows, class).is_some()
+}
+
 /// Where a chain continues whose last class extends this one.
 fn climb_to(rows: &[IndexRow], ascent: &Ascent, class: Name) -> Climb
     requires { IsAscendingByName (λ row. row.class) rows.now }
@@ -98,14 +105,14 @@ fn climb_by(
     alloc: Global,
     rows: &[IndexRow],
     ascent: &Ascent,
-    header: &Value,
+    answer: &Value,
 ) -> Result<Climb, AllocError>
     requires { IsAscendingByName (λ row. row.class) rows.now }
     ensures { IfOk result (λ at. at
         ≡ climb_told rows.now ascent.now
-        (option_and_then (λ h. h.superclass) (header_told header.now))) }
+        (option_and_then (λ h. h.superclass) (header_in answer.now))) }
 {
-    let superclass = match header_in(header) {
+    let superclass = match answer.header() {
         Some(header) => header.superclass(),
         None => None,
     };
@@ -196,5 +203,5 @@ pub fn run_supers<D: Reader>(
     ensures follows { D.follows recorder.old.inner recorder.new.inner }
 {
     let index = read(recorder, Key::Index)?;
-    chain_among(alloc, recorder, rows_in(index.value()), class)
+    chain_among(alloc, recorder, index.value().index(), class)
 }

@@ -27,14 +27,25 @@ const SECOND_TERMS: Terms = Terms {
     form: Form::Two,
 };
 
+/// All ten queries are executed.
+const EXECUTED: Change = Change {
+    terms: FIRST_TERMS,
+    records: FIRST,
+    executed: &[2, 3, 4, 5, 6, 7, 8, 9, 10, 11],
+    others: &[],
+};
+
+/// All ten queries are green, in form 2.
+const GREEN_IN_FORM_2: Change = Change {
+    terms: SECOND_FORM,
+    records: FIRST,
+    executed: &[],
+    others: &[],
+};
+
 /// What the class prints is edited, and edited back: 22 runs.
 static THERE_AND_BACK: [Change; 3] = [
-    Change {
-        terms: FIRST_TERMS,
-        records: FIRST,
-        executed: &[2, 3, 4, 5, 6, 7, 8, 9, 10, 11],
-        others: &[],
-    },
+    EXECUTED,
     Change {
         terms: FIRST_TERMS,
         records: FIRST,
@@ -76,29 +87,14 @@ static IN_FORM_2: [Change; 3] = [
         executed: &[2, 3, 4, 5, 6, 7, 8, 9, 10, 11],
         others: &[],
     },
-    Change {
-        terms: SECOND_FORM,
-        records: FIRST,
-        executed: &[],
-        others: &[],
-    },
-    Change {
-        terms: SECOND_FORM,
-        records: FIRST,
-        executed: &[],
-        others: &[],
-    },
+    GREEN_IN_FORM_2,
+    GREEN_IN_FORM_2,
 ];
 
 /// Nothing is edited in five sessions of both profiles and both forms: the ten queries are run in the first one, and the
 /// check of the class in each that is of another profile than the one before it.
 static MIXED: [Change; 5] = [
-    Change {
-        terms: FIRST_TERMS,
-        records: FIRST,
-        executed: &[2, 3, 4, 5, 6, 7, 8, 9, 10, 11],
-        others: &[],
-    },
+    EXECUTED,
     Change {
         terms: SECOND_TERMS,
         records: FIRST,
@@ -117,12 +113,7 @@ static MIXED: [Change; 5] = [
         executed: &[8],
         others: &[],
     },
-    Change {
-        terms: SECOND_FORM,
-        records: FIRST,
-        executed: &[],
-        others: &[],
-    },
+    GREEN_IN_FORM_2,
 ];
 
 /// The sessions of form 2.

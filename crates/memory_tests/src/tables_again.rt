@@ -1,7 +1,7 @@
 //! The calls of tables, each made again where it is refused memory.
 
 use crate::chains::{FIRST_TERMS, ONE, executed, green, one_session};
-use answer_fixtures::Asked;
+use answer_fixtures::KeyParts;
 use item_ids::Kind;
 use job_table::{CloseFault, TableFault};
 use session_fixtures::twice;
@@ -9,9 +9,9 @@ use std::alloc::Global;
 use std::test::*;
 use table_fixtures::{Call, Calls, Change, History, Said, Saying, are_said, is_history};
 
-const FILES: Asked<'static> = Asked(Kind::Files, "", "");
+const FILES: KeyParts<'static> = KeyParts(Kind::Files, "", "");
 
-const ANSWER: Asked<'static> = Asked(Kind::Answer, "", "");
+const ANSWER: KeyParts<'static> = KeyParts(Kind::Answer, "", "");
 
 /// A table that was just opened has no event, and answers for the names of the files.
 static OPENED: [Saying; 1] = [Saying {

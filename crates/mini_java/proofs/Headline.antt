@@ -25,7 +25,7 @@ use Rattle.audit_replay.proofs.ChainRules.{all_right}
 use Rattle.audit_replay.proofs.AcceptedRules.{means_accepted, meant_by_last}
 use Rattle.mini_java.specs.Headline.{ChainRefuses, IsAcceptedAgainst, IsAcceptedChain, IsOfTheRules}
 
-means_the_rules : (profile : Profile) (p : Project) → mean profile p Answer ≡ values.Answer (rules_of profile p)
+pub means_the_rules : (profile : Profile) (p : Project) → mean profile p Answer ≡ values.Answer (rules_of profile p)
 unfolding mean
 means_the_rules profile p = refl
 

@@ -1,2 +1,2 @@
-mod Headline
+pub mod Headline
 mod TakenRules

@@ -14,7 +14,7 @@ use Rattle.graph_rules.specs.Next.{AreSources}
 use Rattle.audit_graph.specs.declared.fault.AuditFault.{AuditFault}
 use Rattle.audit_replay.specs.Passes.{FileRefuses}
 use Rattle.audit_replay.specs.Audits.{AreApart, AreRight, HaveFiles, IsLastProfile, last_of, last_entry}
-use Rattle.audit_replay.specs.Sums.{AreSummed, EndGives, EndGivesAgainst, IsDeviceFault, Sums, TakeRefuses, Takes}
+use Rattle.audit_replay.specs.Sums.{AreSummed, EndGives, EndGivesAgainst, IsDeviceFault, Sums, TakeRefuses, TakesSession}
 use Rattle.audit_replay.specs.declared.chain.Audited.{Audited}
 use Rattle.audit_replay.specs.declared.sum.Sum.{Sum}
 use Rattle.audit_replay.proofs.FileRules.{file_passed}
@@ -30,7 +30,7 @@ none_taken log none state sums = subst (λ (before : List Key). AreSummed querie
 -- ---- one more file
 
 pub takes_file : (old new : ChainAuditor) (held left : List ℕ → Type 0) {A : Type 0} (r : Result A AuditFault)
-    → OnOk r ((s : SessionValue) × Takes queries old.auditor.state new.auditor.state held left old.runner.log.items new.runner.log.items s)
+    → OnOk r ((s : SessionValue) × TakesSession queries old.auditor.state new.auditor.state held left old.runner.log.items new.runner.log.items s)
     → OnOk r ((file : List ℕ) × TakesFile old new held left file)
 takes_file old new held left (Ok a) t = (
   file_of t.0,

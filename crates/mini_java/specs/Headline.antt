@@ -12,7 +12,7 @@ use Rattle.query_rules.specs.Queries.{queries}
 use Rattle.providers.specs.AnswerValues.{IsAnswerValue}
 use Rattle.sessions.specs.Sessions.{SessionValue}
 use Rattle.graph_rules.specs.Next.{AreSources}
-use Rattle.audit_graph.specs.Chains.{IsChain}
+use Rattle.audit_graph.specs.Chains.{IsSessionChain}
 use Rattle.audit_graph.specs.declared.fault.AuditFault.{AuditFault}
 use Rattle.audit_replay.specs.Audits.{ArePassedFiles, AuditRefuses, AuditRefusesAgainst, HasValue, IsLastProfile, last_entry}
 
@@ -32,7 +32,7 @@ pub record IsAcceptedChain (files : List (List ℕ)) (profile : Profile) (answer
   pub log : List Key
   pub passed : ArePassedFiles queries files [] log sessions runs
   pub many : count ≡ length sessions
-  pub chain : IsChain sessions
+  pub chain : IsSessionChain sessions
   pub last_is : IsLastProfile sessions profile
   pub project : Project
   pub sources : AreSources (last_entry sessions) project

@@ -6,7 +6,7 @@ ghost use Rattle.sessions.specs.Sessions.{session_in};
 ghost use Rattle.next_sessions.specs.Nexts.{StandsApart, IsNextSession};
 ghost use Rattle.driver.specs.Sessions.{DriveGives};
 
-use driver::{Crew, DriveFault, Gate, Reports, drive_as};
+use driver::{Basis, Crew, DriveFault, Gate, Reports, drive_as};
 use mj_project::Project;
 use providers::MiniJava;
 use sessions::{Session, Terms};
@@ -50,9 +50,8 @@ pub fn run_session_as<G: Gate + Sync, T: Threads + Wait + Sync>(
         rt,
         alloc,
         &|| MiniJava::new(alloc),
-        prev,
+        Basis { terms, past: prev },
         project,
-        terms,
         Crew::of(workers),
         gate,
     )

@@ -5,7 +5,7 @@ use Rattle.std.specs.List.{AllByRecursion}
 use Rattle.std.proofs.lemmas.List.Elements.{Contains-append_left, Contains-append_right, Contains-append_cases, Contains-push, Contains-push_cases, at_from_Contains}
 use Rattle.mj_answer.specs.Order.{IsAscendingBy, IsStrictTotalOrder, OneList}
 
-nowhere : {X : Type 0} (x : X) → Contains [] x → ⊥
+pub nowhere : {X : Type 0} (x : X) → Contains [] x → ⊥
 nowhere x h = let a = at_from_Contains [] x h in absurd (omega (arith, a.1))
 
 pub Contains-cases : {X : Type 0} (x : X) (xs : List X) (z : X) → Contains (x ∷ xs) z → (x ≡ z) ⊎ Contains xs z

@@ -9,6 +9,7 @@ use Rattle.std.specs.Ordering.{nat_cmp, ordering_then}
 use Rattle.std.specs.Cmp.Lexicographic.{pointwise, slice_cmp}
 use Rattle.std.specs.declared.cmp.Ordering.TheVariants.{Less, Equal, Greater}
 use Rattle.std.proofs.lemmas.Cmp.{ranked}
+use Rattle.std.proofs.lemmas.Bool.{and_parts}
 use Rattle.mj_tree.specs.declared.place.Place.{Place}
 use Rattle.mj_tree.specs.declared.place.Place.TheVariants.{Project, File, ClassOf, Class, Field, Method, Inside}
 use Rattle.mj_answer.specs.declared.code.Code.{Code}
@@ -92,21 +93,17 @@ less_at p (Method j) c d e = absurd (not_less e)
 pub fault_less : (x y : Diagnostic) → cmp-value.it x y ≡ Less → Before x y
 fault_less x y e = less_at x.place y.place x.code y.code e
 
-both_true : (s t : Bool) → (s && t) ≡ true → (s ≡ true) × (t ≡ true)
-both_true true t e = (refl, e)
-both_true false t e = absurd cc
-
 names_equal : (m n : List ℕ) → pointwise ◌==◌ m n ≡ true → m ≡ n
 names_equal m n = (slice_eq-Decides unsigned_Decides m n (pointwise ◌==◌ m n) refl).0
 
 joined : (p q : Place) (c d : Code) (s : Bool) → (s ≡ true → p ≡ q) → (s && (code_number c == code_number d)) ≡ true → fault_at p c ≡ fault_at q d
 joined p q c d s same e =
-    let both = both_true s (code_number c == code_number d) e in
+    let both = and_parts s (code_number c == code_number d) e in
     ap (λ (v : Place). fault_at v c) (same both.0) ∙ ap (fault_at q) (code_injective c d ((unsigned_Decides (code_number c) (code_number d)).0 both.1))
 
 named_joined : (f : List ℕ → ℕ → Place) (m n : List ℕ) (i j : ℕ) → (pointwise ◌==◌ m n && (i == j)) ≡ true → f m i ≡ f n j
 named_joined f m n i j e =
-    let both = both_true (pointwise ◌==◌ m n) (i == j) e in
+    let both = and_parts (pointwise ◌==◌ m n) (i == j) e in
     ap (λ (v : List ℕ). f v i) (names_equal m n both.0) ∙ ap (f n) ((unsigned_Decides i j).0 both.1)
 
 equal_at : (p q : Place) (c d : Code) → eq-value.it (fault_at p c) (fault_at q d) ≡ true → fault_at p c ≡ fault_at q d

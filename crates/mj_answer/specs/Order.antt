@@ -74,7 +74,7 @@ IsTableInOrder table =
 abbrev pub IsClassInOrder : ClassAnswerValue → Type 0
 IsClassInOrder class = IsTableInOrder class.table × IsAscending class.faults
 
-pub record IsInOrder (answer : AnswerValue) : Type 0 where
+pub record IsAnswerInOrder (answer : AnswerValue) : Type 0 where
   pub faults : IsAscending answer.faults
   pub classes : IsAscendingByName (λ class. class.name) answer.classes
   pub each : AllByRecursion IsClassInOrder answer.classes

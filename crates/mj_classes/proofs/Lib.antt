@@ -3,8 +3,11 @@ pub mod Climb
 pub mod Climbing
 pub mod Closed
 pub mod Distinct
+pub mod FarSteps
 pub mod Index
+pub mod Keeping
 pub mod Nearest
 pub mod Places
 pub mod Tables
+pub mod Turning
 pub mod Walks

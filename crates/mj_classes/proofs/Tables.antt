@@ -15,13 +15,14 @@ use Rattle.std.proofs.lemmas.List.Elements.{Contains-append_right, Contains-appe
 use Rattle.std.proofs.lemmas.Map.Keys.{IsDistinct-from_sorted}
 use Rattle.std.proofs.lemmas.Map.Lookups.{exact_bytes}
 use Rattle.std.proofs.lemmas.Map.Views.{tells_apart, lookup-from_Contains, Contains-from_lookup}
+use Rattle.std.proofs.lemmas.Map.Text.{is_eq-slice_cmp}
 use Rattle.mj_tree.specs.Trees.{Name}
 use Rattle.mj_members.specs.Declarations.{ClassDecl}
 use Rattle.mj_classes.specs.Members.{nearest, or_farther}
 use Rattle.mj_members.specs.Tables.{all_along, firsts}
 use Rattle.mj_classes.specs.Tables.{AreAscending, IsTable}
 use Rattle.mj_members.proofs.Tables.{by_bytes, under, under_first}
-use Rattle.mj_tree.proofs.Positions.{names_tie, bytes_eq_back}
+use Rattle.mj_tree.proofs.Positions.{bytes_eq_back}
 
 -- ---- lists of entries
 
@@ -47,7 +48,8 @@ unfolding IsStrictlySortedBy
 ascending_keys [] h = tt
 ascending_keys (e ∷ es) h = (below_each e.0 es (and_first _ _ h), ascending_keys es (and_second _ _ h))
 
-under_lookup : {A : Type 0} (n : Name) (es : List (Name × A)) → under n es ≡ lookup (eq_by_cmp by_bytes n) es
+-- what stands under a name is what a look-up of the name finds
+pub under_lookup : {A : Type 0} (n : Name) (es : List (Name × A)) → under n es ≡ lookup (eq_by_cmp by_bytes n) es
 under_lookup n [] = refl
 under_lookup n (e ∷ es) = ap (λ o. cond (eq_by_cmp by_bytes n e.0) (Some e.1) o) (under_lookup n es)
 
@@ -75,7 +77,7 @@ value_stands {A} n a (e ∷ es) h = elim (contains_cons (n, a) e es h) [
 ]
 
 -- each entry stands under its own name
-abbrev AllNamed : {A : Type 0} → (A → Name) → List (Name × A) → Type 0
+abbrev pub AllNamed : {A : Type 0} → (A → Name) → List (Name × A) → Type 0
 AllNamed name es = AllByRecursion (λ e. e.0 ≡ name e.1) es
 
 same_pair : {A : Type 0} (e : Name × A) (n : Name) (b : A) → e.0 ≡ n → e.1 ≡ b → e ≡ (n, b)
@@ -90,11 +92,12 @@ stands_named name a (e ∷ es) all h = elim (contains_cons a e.1 (values_of es) 
   | inr rest ↦ Contains-append_right (e ∷ []) es (name a, a) (stands_named name a es all.1 rest)
 ]
 
-named_names : {A : Type 0} (name : A → Name) (es : List (Name × A)) → AllNamed name es → map name (values_of es) ≡ keys_of es
+pub named_names : {A : Type 0} (name : A → Name) (es : List (Name × A)) → AllNamed name es → map name (values_of es) ≡ keys_of es
 named_names name [] all = refl
 named_names name (e ∷ es) all = ap (λ (n : Name). n ∷ map name (values_of es)) (sym all.0) ∙ ap (λ (ns : List Name). e.0 ∷ ns) (named_names name es all.1)
 
-all_from_each : {A : Type 0} (P : A → Type 0) (xs : List A) → ((x : A) → Contains xs x → P x) → AllByRecursion P xs
+-- what holds of each element holds of all
+pub all_from_each : {A : Type 0} (P : A → Type 0) (xs : List A) → ((x : A) → Contains xs x → P x) → AllByRecursion P xs
 all_from_each P [] h = tt
 all_from_each P (x ∷ xs) h = (h x (contains_first x xs), all_from_each P xs (λ y i. h y (Contains-append_right (x ∷ []) xs y i)))
 
@@ -111,7 +114,7 @@ all_append P (x ∷ xs) ys a b = (a.0, all_append P xs ys a.1 b)
 
 -- ---- what a chain declares
 
-own_named : {A : Type 0} (name : A → Name) (owner : Name) (xs : List A) → AllNamed (λ (r : Name × A). name r.1) (map (λ a. (name a, (owner, a))) xs)
+pub own_named : {A : Type 0} (name : A → Name) (owner : Name) (xs : List A) → AllNamed (λ (r : Name × A). name r.1) (map (λ a. (name a, (owner, a))) xs)
 own_named name owner [] = tt
 own_named name owner (x ∷ xs) = (refl, own_named name owner xs)
 
@@ -128,7 +131,7 @@ under_own : {A : Type 0} (name : A → Name) (n owner : Name) (xs : List A) (oth
     → under n (map (λ a. (name a, (owner, a))) xs ++ others) ≡ or_farther owner (find (λ a. bytes_eq (name a) n) xs) (under n others)
 under_own name n owner [] others = refl
 under_own {A} name n owner (x ∷ xs) others =
-    let same : eq_by_cmp by_bytes n (name x) ≡ bytes_eq (name x) n = names_tie n (name x) ∙ bytes_eq_back n (name x) in
+    let same : eq_by_cmp by_bytes n (name x) ≡ bytes_eq (name x) n = is_eq-slice_cmp n (name x) ∙ bytes_eq_back n (name x) in
     ap (λ b. cond b (Some (owner, x)) (under n (map (λ a. (name a, (owner, a))) xs ++ others))) same
     ∙ under_row n owner x (under n (map (λ a. (name a, (owner, a))) xs ++ others)) (under n others) (find (λ a. bytes_eq (name a) n) xs) (bytes_eq (name x) n) (under_own name n owner xs others)
 

@@ -4,5 +4,6 @@ pub mod Declarations
 pub mod Index
 pub mod Laws
 pub mod Members
+pub mod Steps
 pub mod Tables
 pub mod Walks

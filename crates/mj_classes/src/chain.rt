@@ -1,11 +1,11 @@
 //! The chain of a class.
-ghost use Rattle.std.specs.Prelude.{◌≡◌, ◌<◌, ◌+◌, ◌++◌, ◌∷◌, [], ℕ, List, length, filter, Some, None, IfOk, OnOk, MatchOption, option_map, slice_get};
-ghost use Rattle.mj_members.specs.Declarations.{ClassDecl, has_members};
-ghost use Rattle.mj_classes.specs.Declarations.{decl, superclass_places};
+ghost use Rattle.std.specs.Prelude.{◌≡◌, ◌<◌, [], List, ℕ, length, filter, Some, None, IfOk, OnOk, MatchOption, option_map};
+ghost use Rattle.mj_members.specs.Declarations.{has_members};
+ghost use Rattle.mj_classes.specs.Declarations.{decl, place, superclass_places};
 ghost use Rattle.mj_classes.specs.Chains.{chain_of, ancestry};
 ghost use Rattle.mj_members.specs.Classes.{classes_view, class_ref_view};
 ghost use Rattle.mj_classes.specs.Classes.{end_view};
-ghost use Rattle.mj_classes.specs.Walks.{IsPlace, IsChainAt, IsInRing, RunsInto, LeadsTo, ClimbGives, straight_end};
+ghost use Rattle.mj_classes.specs.Walks.{IsFirstPlace, IsChainAt, IsTurn, IsEndAt, Stretch, LeadsUp, declaring, straight_end};
 
 use crate::declarations::Declarations;
 use mj_lexer::Name;
@@ -31,15 +31,6 @@ pub struct ClassChain<'a> {
     pub end: End<'a>,
 }
 
-/// Where a walk up the superclasses leads.
-#[derive(Drop)]
-enum Climb<'a> {
-    /// To a class without a declared superclass.
-    Straight(ClassChain<'a>),
-    /// Into a ring, past the class at this place.
-    Round(usize),
-}
-
 impl<'a> Declarations<'a> {
     ghost use Rattle.mj_classes.specs.Index.{declared_in};
 
@@ -62,134 +53,91 @@ impl<'a> Declarations<'a> {
 
     /// The chain of the class at this place.
     fn climb(&self, alloc: Global, first: usize) -> Result<ClassChain<'a>, AllocError>
-        requires { IsPlace (declared_in self.now) first }
+        requires { IsFirstPlace (declared_in self.now) first }
         ensures { IfOk result (λ c.
             IsChainAt (declared_in self.now) first
             (classes_view c.classes.items) (end_view c.end)) }
     {
-        match self.climb_straight(alloc, first)? {
-            Climb::Straight(chain) => Ok(chain),
-            Climb::Round(on) => self.climb_round(alloc, first, self.around(on)),
-        }
-    }
-
-    /// Walks up from the class at this place, to the end of its chain or into a ring. The walk remembers one class that
-    /// it has passed and replaces it by the current one each time the number of steps doubles; where it meets that
-    /// class again there is a ring.
-    fn climb_straight(&self, alloc: Global, first: usize) -> Result<Climb<'a>, AllocError>
-        requires { IsPlace (declared_in self.now) first }
-        ensures { IfOk result (ClimbGives (declared_in self.now) first) }
-    {
+        let turn = self.turn_at(first);
         let mut classes = Vec::new(alloc);
-        let mut at = first;
-        let mut passed = first;
-        for step in 0..self.classes().len() {
-            self.keep(&mut classes, at)?;
-            if step.is_power_of_two() {
-                passed = at;
-            }
-            let Some(next) = self.superclass_of(at) else {
-                let end = straight_end(&self.class_at(at));
-                return Ok(Climb::Straight(ClassChain { classes, end }));
-            };
-            if next == passed {
-                return Ok(Climb::Round(passed));
-            }
-            at = next;
-        }
-        Ok(Climb::Round(at))
+        self.keep_chain(&mut classes, first, turn)?;
+        Ok(ClassChain {
+            classes,
+            end: self.end_at(turn),
+        })
     }
 
-    /// How many classes are in the ring that the class at this place belongs to.
-    fn around(&self, on: usize) -> usize
-        requires { (c : List ℕ) × IsInRing (declared_in self.now) c on }
-        ensures { (c : List ℕ) (ring : IsInRing (declared_in self.now) c on)
-            → length ring.chain ≡ ring.entry + result }
+    /// How a chain ends whose walk turns at the class at this place.
+    fn end_at(&self, turn: usize) -> End<'a>
+        requires { turn < length (declared_in self.now) }
+        ensures { IsEndAt (declared_in self.now) turn (end_view result) }
     {
-        let mut at = on;
-        for step in 0..self.classes().len() {
-            at = self.above(at);
-            if at == on {
-                return step + 1;
-            }
+        let class = self.class_at(turn);
+        match self.superclass_of(turn) {
+            Some(_) => End::Repeated(class.name()),
+            None => straight_end(&class),
         }
-        unreachable!();
     }
 
-    /// The chain of the class at this place, which leads into a ring of this many classes. Of two walks from the class,
-    /// of which one is that many steps ahead, both meet where the ring is entered.
-    fn climb_round(
+    /// Adds the classes of the chain of the one at the first place that declare members, where its walk turns at the
+    /// second: those in front of the first such class behind the turn, that class, and those behind it.
+    fn keep_chain(
         &self,
-        alloc: Global,
+        classes: &mut Vec<ClassRef<'a>>,
         first: usize,
-        around: usize,
-    ) -> Result<ClassChain<'a>, AllocError>
-        requires { RunsInto (declared_in self.now) first around }
-        ensures { IfOk result (λ c.
-            IsChainAt (declared_in self.now) first
-            (classes_view c.classes.items) (end_view c.end)) }
-    {
-        let mut classes = Vec::new(alloc);
-        let mut ahead = first;
-        for _ in 0..around {
-            self.keep(&mut classes, ahead)?;
-            ahead = self.above(ahead);
-        }
-        self.climb_to_entry(classes, first, ahead)
-    }
-
-    /// The chain of the class at the first place, after these classes were passed on the way to the place ahead.
-    fn climb_to_entry(
-        &self,
-        passed: Vec<ClassRef<'a>>,
-        first: usize,
-        start: usize,
-    ) -> Result<ClassChain<'a>, AllocError>
-        requires { LeadsTo (declared_in self.now) first start (classes_view passed.items) }
-        ensures { IfOk result (λ c.
-            IsChainAt (declared_in self.now) first
-            (classes_view c.classes.items) (end_view c.end)) }
-    {
-        let mut classes = passed;
-        let mut behind = first;
-        let mut ahead = start;
-        for _ in 0..self.classes().len() {
-            if behind == ahead {
-                let end = End::Repeated(self.class_at(behind).name());
-                return Ok(ClassChain { classes, end });
-            }
-            self.keep(&mut classes, ahead)?;
-            behind = self.above(behind);
-            ahead = self.above(ahead);
-        }
-        unreachable!();
-    }
-
-    /// Adds the class at this place, if it declares a member.
-    fn keep(&self, classes: &mut Vec<ClassRef<'a>>, at: usize) -> Result<(), AllocError>
-        requires { at < length (declared_in self.now) }
+        turn: usize,
+    ) -> Result<(), AllocError>
+        requires turns { IsTurn (declared_in self.now) first turn }
+        requires first { IsFirstPlace (declared_in self.now) first }
+        requires none { classes.old.items ≡ [] }
         ensures { OnOk result
-            ((k : ClassDecl)
-            → slice_get (declared_in self.now) at ≡ Some k
+            ((c : List ℕ)
+            → place (declared_in self.now) c ≡ Some first
             → classes_view classes.new.items
-            ≡ classes_view classes.old.items ++ filter has_members (k ∷ [])) }
+            ≡ filter has_members (ancestry (declared_in self.now) c)) }
     {
-        if self.has_members_at(at) {
-            classes.push(self.class_at(at))?;
+        let stop = self.declaring_at(turn);
+        self.keep_until(classes, first, stop)?;
+        if let Some(place) = stop {
+            classes.push(self.class_at(place))?;
+            self.keep_until(classes, self.above(place), stop)?;
         }
         Ok(())
     }
 
-    /// The place of the declared class that the one at this place extends.
-    fn above(&self, at: usize) -> usize
-        requires { (next : ℕ)
-            × (slice_get (superclass_places (declared_in self.now)) at ≡ Some (Some next)) }
-        ensures { slice_get (superclass_places (declared_in self.now)) at ≡ Some (Some result) }
+    /// Adds the classes that declare members on the walk from this place, in front of the one at the place to stop.
+    fn keep_until(
+        &self,
+        classes: &mut Vec<ClassRef<'a>>,
+        from: usize,
+        stop: Option<usize>,
+    ) -> Result<(), AllocError>
+        requires { Stretch (declared_in self.now) from stop (classes_view classes.old.items) }
+        ensures { OnOk result
+            ((w : Stretch (declared_in self.now) from stop (classes_view classes.old.items))
+            → classes_view classes.new.items ≡ declaring (declared_in self.now) w.chain w.goal) }
     {
-        let Some(next) = self.superclass_of(at) else {
-            unreachable!();
-        };
-        next
+        let mut at = from;
+        for _ in 0..self.classes().len() {
+            let next = self.declaring_at(at);
+            if next == stop {
+                return Ok(());
+            }
+            let Some(place) = next else {
+                unreachable!();
+            };
+            classes.push(self.class_at(place))?;
+            at = self.above(place);
+        }
+        Ok(())
+    }
+
+    /// The place of the declared class that the one at this place extends, or else this place.
+    fn above(&self, at: usize) -> usize
+        requires { at < length (declared_in self.now) }
+        ensures { LeadsUp (superclass_places (declared_in self.now)) at result }
+    {
+        self.superclass_of(at).unwrap_or(at)
     }
 }
 

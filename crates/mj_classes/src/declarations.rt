@@ -5,14 +5,16 @@ ghost use Rattle.std.specs.BTreeMap.{get};
 ghost use Rattle.std.specs.Cmp.Lexicographic.{slice_cmp};
 ghost use Rattle.std.specs.Ordering.{nat_cmp};
 ghost use Rattle.mj_tree.specs.Views.{class_view, file_view};
-ghost use Rattle.mj_members.specs.Declarations.{ClassDecl, has_members};
+ghost use Rattle.mj_members.specs.Declarations.{has_members};
 ghost use Rattle.mj_classes.specs.Declarations.{classes_of, number_classes, declarations, decl, place, superclass_places};
 ghost use Rattle.mj_members.specs.Classes.{class_ref_view, classes_view};
 ghost use Rattle.mj_classes.specs.Classes.{files_view};
+ghost use Rattle.mj_classes.specs.Walks.{AreStepsUp, AreTurns, AreNearest, IsTurn, IsNearestAt};
 
 use crate::own::OwnMembers;
+use crate::steps::{ends, turns};
 use mj_lexer::Name;
-use mj_members::{ClassRef, Tree};
+use mj_members::{AnyClassTree, ClassRef};
 use mj_tree::{ClassTree, FileTree};
 use std::alloc::{AllocError, Global};
 use std::collections::BTreeMap;
@@ -24,14 +26,20 @@ pub struct Declarations<'a> {
     by_name: BTreeMap<Name, usize>,
     /// For each class the place of the one that it extends, if that is declared.
     superclasses: Vec<Option<usize>>,
-    /// For each class whether it declares a field or a method, so that a walk up a long chain reads no trees.
+    /// For each class whether it declares a field or a method.
     declares: Vec<bool>,
     /// For each class what it declares itself.
     members: Vec<OwnMembers<'a>>,
+    /// For each class where a walk up from it turns: at a class without a declared superclass, or where it enters a ring.
+    turns: Vec<usize>,
+    /// For each class where a walk up from it ends that halts at the first one which declares a field or a method.
+    nearest: Vec<usize>,
     ghost indexed: { (q : List ℕ) → get (slice_cmp nat_cmp) by_name q
         ≡ position (λ k. bytes_eq k.name q) (classes_view classes.items) },
     ghost linked: { superclasses.items ≡ superclass_places (classes_view classes.items) },
     ghost flagged: { declares.items ≡ map has_members (classes_view classes.items) },
+    ghost turned: { AreTurns (classes_view classes.items) turns.items },
+    ghost near: { AreNearest (classes_view classes.items) nearest.items },
     ghost listed: { map (λ m. m.class) members.items ≡ classes.items },
 }
 
@@ -46,6 +54,9 @@ impl<'a> Declarations<'a> {
         let by_name = index_by_name(alloc, &classes)?;
         let superclasses = link(alloc, &classes, &by_name)?;
         let declares = flag_members(alloc, &classes)?;
+        let steps = steps_up(alloc, &superclasses)?;
+        let turns = turns(alloc, &steps)?;
+        let nearest = ends(alloc, &steps, &declares)?;
         let members = own_members(alloc, &classes)?;
         Ok(Declarations {
             classes,
@@ -53,6 +64,8 @@ impl<'a> Declarations<'a> {
             superclasses,
             declares,
             members,
+            turns,
+            nearest,
         })
     }
 
@@ -94,12 +107,25 @@ impl<'a> Declarations<'a> {
         self.superclasses[at]
     }
 
-    /// Whether the class at this place declares a field or a method itself.
-    pub(crate) fn has_members_at(&self, at: usize) -> bool
+    /// Where a walk up from the class at this place turns.
+    pub(crate) fn turn_at(&self, at: usize) -> usize
         requires { at < length (declared_in self.now) }
-        ensures { (k : ClassDecl) → slice_get (declared_in self.now) at ≡ Some k → result ≡ has_members k }
+        ensures { IsTurn (declared_in self.now) at result }
     {
-        self.declares[at]
+        self.turns[at]
+    }
+
+    /// The nearest class of the walk up from the one at this place that declares a member.
+    pub(crate) fn declaring_at(&self, at: usize) -> Option<usize>
+        requires { at < length (declared_in self.now) }
+        ensures { IsNearestAt (declared_in self.now) at result }
+    {
+        let place = self.nearest[at];
+        if self.declares[place] {
+            Some(place)
+        } else {
+            None
+        }
     }
 
     /// What the class at this place declares itself.
@@ -142,7 +168,7 @@ fn add_file<'a>(
             classes.push(ClassRef {
                 file,
                 number: 0,
-                tree: Tree::Main(main),
+                tree: AnyClassTree::Main(main),
             })?;
             add_classes(classes, file, 1, &tree.classes)
         }
@@ -166,7 +192,7 @@ fn add_classes<'a>(
         classes.push(ClassRef {
             file,
             number: first + n,
-            tree: Tree::Plain(class),
+            tree: AnyClassTree::Plain(class),
         })?;
     }
     Ok(())
@@ -205,6 +231,17 @@ fn link(
         places.push(superclass_place(class, by_name))?;
     }
     Ok(places)
+}
+
+/// For each place the one above it, or itself where there is none.
+fn steps_up(alloc: Global, superclasses: &[Option<usize>]) -> Result<Vec<usize>, AllocError>
+    ensures { IfOk result (λ steps. AreStepsUp superclasses.now steps.items) }
+{
+    let mut steps = Vec::new(alloc);
+    for (at, above) in superclasses.iter().enumerate() {
+        steps.push(above.unwrap_or(at))?;
+    }
+    Ok(steps)
 }
 
 /// Where this index has the name that a class extends.

@@ -6,8 +6,11 @@ mod declarations;
 mod laws;
 mod lookup;
 mod own;
+mod steps;
 
 pub use chain::{ClassChain, End};
 pub use declarations::Declarations;
 pub use laws::{acceptance_laws, chain_laws, member_laws};
-pub use mj_members::{ClassRef, FieldMember, MethodMember, Tree, field_table, method_table};
+pub use mj_members::{
+    AnyClassTree, ClassRef, FieldMember, MethodMember, field_table, method_table,
+};

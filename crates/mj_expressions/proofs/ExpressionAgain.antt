@@ -4,8 +4,8 @@ use Rattle.std.specs.Prelude.{codes}
 use Rattle.mj_lexer.specs.declared.token.Terminal.{Terminal}
 use Rattle.mj_lexer.specs.declared.token.Token.{Token}
 use Rattle.mj_lexer.specs.declared.token.Terminal.TheVariants as terminals
-use Rattle.mj_lexer.specs.declared.token.Kind.{Kind}
-use Rattle.mj_lexer.specs.declared.token.Kind.TheVariants as kinds
+use Rattle.mj_lexer.specs.declared.token.TokenKind.{TokenKind}
+use Rattle.mj_lexer.specs.declared.token.TokenKind.TheVariants as kinds
 use Rattle.std.proofs.lemmas.Bool.{cases_lt}
 use Rattle.mj_tree.specs.declared.tree.Operator.{Operator}
 use Rattle.mj_tree.specs.declared.tree.Operator.TheVariants.{And, Less, Plus, Minus, Times}
@@ -44,7 +44,7 @@ begins ts n b (NewObject m c) d i neg h = has_other ts i terminals.New n (has_is
 begins ts n b (Not m e) d i neg h = has_other ts i terminals.Not n (has_is _ _ _ h.2) (neg h.0)
 begins ts n b (Parenthesized m e) d i neg h = has_other ts i terminals.LeftParenthesis n (has_is _ _ _ h.1) b.is_paren
 
-height_some : (e : Expression) → 0 < height e
+pub height_some : (e : Expression) → 0 < height e
 height_some (Binary o m l r) = omega arith
 height_some (Index m a x) = omega arith
 height_some (Length m a) = omega arith
@@ -72,19 +72,19 @@ closer_comma = record { bracket = refl; dot = refl; paren = refl; and = refl; le
 
 -- ---- the kind at a place
 
-kind_named : (k : Option Kind) (name : List ℕ) → name_of k ≡ Some name → k ≡ Some (kinds.Identifier name)
+kind_named : (k : Option TokenKind) (name : List ℕ) → name_of k ≡ Some name → k ≡ Some (kinds.Identifier name)
 kind_named None name h = absurd cc
 kind_named (Some (kinds.Identifier x)) name h = cc
 kind_named (Some (kinds.Literal v)) name h = absurd cc
 kind_named (Some (kinds.Terminal o)) name h = absurd cc
 
-kind_valued : (k : Option Kind) (v : ℕ) → value_of k ≡ Some v → k ≡ Some (kinds.Literal v)
+kind_valued : (k : Option TokenKind) (v : ℕ) → value_of k ≡ Some v → k ≡ Some (kinds.Literal v)
 kind_valued None v h = absurd cc
 kind_valued (Some (kinds.Identifier x)) v h = absurd cc
 kind_valued (Some (kinds.Literal w)) v h = cc
 kind_valued (Some (kinds.Terminal o)) v h = absurd cc
 
-kind_fixed : (m : Terminal) → ((o : Terminal) → same_terminal m o ≡ true → o ≡ m) → (k : Option Kind) → is_terminal m k ≡ true → k ≡ Some (kinds.Terminal m)
+kind_fixed : (m : Terminal) → ((o : Terminal) → same_terminal m o ≡ true → o ≡ m) → (k : Option TokenKind) → is_terminal m k ≡ true → k ≡ Some (kinds.Terminal m)
 kind_fixed m only None h = absurd cc
 kind_fixed m only (Some (kinds.Identifier x)) h = absurd cc
 kind_fixed m only (Some (kinds.Literal w)) h = absurd cc

@@ -1,19 +1,19 @@
 -- What is read as an expression is that expression by the grammar.
 use Rattle.std.proofs.Common.{◌≡◌, ℕ, zero, suc, ◌+◌, ◌≤◌, true, not, ◌&&◌, eqb, leb, List, length, Option, Some, None, refl, sym, ap, subst, arith, inl, inr}
 use Rattle.std.specs.Prelude.{codes}
-use Rattle.std.proofs.lemmas.Bool.{eqb-true, leb-true}
+use Rattle.std.proofs.lemmas.Bool.{eqb-true, leb-true, and_parts, not-true}
 use Rattle.mj_lexer.specs.declared.token.Terminal.{Terminal}
 use Rattle.mj_lexer.specs.declared.token.Token.{Token}
 use Rattle.mj_lexer.specs.declared.token.Terminal.TheVariants as terminals
-use Rattle.mj_lexer.specs.declared.token.Kind.{Kind}
-use Rattle.mj_lexer.specs.declared.token.Kind.TheVariants as kinds
+use Rattle.mj_lexer.specs.declared.token.TokenKind.{TokenKind}
+use Rattle.mj_lexer.specs.declared.token.TokenKind.TheVariants as kinds
 use Rattle.mj_tree.specs.declared.tree.Operator.{Operator}
 use Rattle.mj_expressions.specs.Tokens.{Stands, name_of, value_of, kind_at, has, name_at, value_at, says}
 use Rattle.mj_tree.specs.Trees.{Expression, Binary, Index, Length, Call, Literal, Boolean, Named, This, NewArray, NewObject, Not, Parenthesized}
 use Rattle.mj_expressions.specs.Expressions.{tier_of, terminal_of, size, sizes, sizes_more, height, heights, is_new_array, IsExp, AreArguments, AreMore}
 use Rattle.mj_tree.specs.Views.{expressions_of}
 use Rattle.mj_expressions.specs.Steps.{◌>>=◌, items_from, behind_comma, at_comma, listed_at}
-use Rattle.mj_expressions.proofs.Binds.{bind_some, when_some, if_some, some_or_none, some_is, and_both, not_false}
+use Rattle.mj_expressions.proofs.Binds.{bind_some, when_some, if_some, some_or_none, some_is}
 use Rattle.mj_expressions.specs.ExpressionReading.{TierParser, close, operator_here, of_tier, operator_at, takes_index, new_at, terminal_at, prim_of, prim_at, index_at, member_at, post_from, post_at, binary_from, tier_at, exp_at}
 use Rattle.mj_expressions.proofs.Stands.{stands, when_stands, if_stands, both_stand}
 
@@ -188,7 +188,7 @@ module _ (part : TierParser) (ts : List Token) (room : ℕ) (sound : (d i : ℕ)
   terminal_found i terminals.LeftParenthesis x k e = paren_found i x (marked i terminals.LeftParenthesis k) e
   terminal_found i _ x k e = absurd cc
 
-  prim_of_found : (i : ℕ) (k : Option Kind) (x : Expression × ℕ) → kind_at ts i ≡ k → prim_of part ts i k ≡ Some x → Primary i x
+  prim_of_found : (i : ℕ) (k : Option TokenKind) (x : Expression × ℕ) → kind_at ts i ≡ k → prim_of part ts i k ≡ Some x → Primary i x
   unfolding Primary
   prim_of_found i None x k e = absurd cc
   prim_of_found i (Some (kinds.Identifier name)) x k e = subst (Sound ts 0 i (suc room)) (some_is _ x e) (record { is = (refl, named i name k); at = refl; low = omega arith })
@@ -204,13 +204,13 @@ module _ (part : TierParser) (ts : List Token) (room : ℕ) (sound : (d i : ℕ)
   index_found : (i j : ℕ) (a : Expression) (x : Expression × ℕ) → IsExp ts 0 i a → j ≡ i + size a → height a ≤ room → takes_index ts a j ≡ true → index_at part ts a j ≡ Some x → Primary i x
   unfolding index_at Primary
   index_found i j a x h at low t e =
-      let both = and_both (has ts j terminals.LeftBracket) (not (is_new_array a)) t in
+      let both = and_parts (has ts j terminals.LeftBracket) (not (is_new_array a)) t in
       let c = bind_some (part 5 (j + 1)) _ x e in
       let s = sound 5 (j + 1) c.0 c.1 in
       let d = when_stands ts c.0.1 terminals.RightBracket _ x c.2 in
       let place = s.at in
       let low2 = s.low in
-      subst (Sound ts 0 i (suc room)) (some_is _ x d.1) (record { is = (h, not_false (is_new_array a) both.1, at, stands ts j terminals.LeftBracket both.0, s.is, rw (← s.at) d.0); at = omega arith; low = omega arith })
+      subst (Sound ts 0 i (suc room)) (some_is _ x d.1) (record { is = (h, not-true (is_new_array a) both.1, at, stands ts j terminals.LeftBracket both.0, s.is, rw (← s.at) d.0); at = omega arith; low = omega arith })
 
   member_found : (i j m : ℕ) (a : Expression) (x : Expression × ℕ) → IsExp ts 0 i a → j ≡ i + size a → m ≡ j + 1 → height a ≤ room → Stands ts j terminals.Dot → member_at part ts a m ≡ Some x → Primary i x
   unfolding member_at Primary

@@ -6,7 +6,7 @@ use Rattle.mj_lexer.specs.declared.token.Terminal.TheVariants as terminals
 use Rattle.mj_expressions.specs.declared.fault.ParseFault.{ParseFault}
 use Rattle.mj_expressions.specs.declared.fault.ParseFault.TheVariants.{NotAFile, TooDeep, OutOfMemory}
 use Rattle.mj_expressions.specs.Tokens.{has}
-use Rattle.mj_expressions.specs.Steps.{◌>>=◌, when, PartParser, items_from, behind_comma, at_comma, more_listed, listed_at, Fails, Finds}
+use Rattle.mj_expressions.specs.Steps.{◌>>=◌, when, PartParser, items_from, behind_comma, at_comma, more_listed, listed_at, FailsToParse, Finds}
 
 -- these items before those that are still read
 abbrev pub with_front : {A : Type 0} → List A → Option (List A × ℕ) → Option (List A × ℕ)
@@ -92,13 +92,13 @@ list_ends (Ok x) items after front view More ts j f g = rw (f.1, f.2) (list_clos
 list_ends (Err e) items after front view More ts j f g = rw g.0 (list_open ts (view front) j g.1)
 
 -- where a part isn't found, the whole isn't
-pub fails_on : {A B : Type 0} (e : ParseFault) (x : Option A) (y : Option B) → (x ≡ None → y ≡ None) → Fails e x → Fails e y
+pub fails_on : {A B : Type 0} (e : ParseFault) (x : Option A) (y : Option B) → (x ≡ None → y ≡ None) → FailsToParse e x → FailsToParse e y
 fails_on OutOfMemory x y f h = tt
 fails_on (NotAFile k) x y f h = f h
 fails_on TooDeep x y f h = f h
 
 -- an error whose place is counted from another token
-pub fails_behind : {A B : Type 0} (e f : ParseFault) (x : Option A) (y : Option B) → ((f ≡ OutOfMemory) ↔ (e ≡ OutOfMemory)) → (x ≡ None → y ≡ None) → Fails e x → Fails f y
+pub fails_behind : {A B : Type 0} (e f : ParseFault) (x : Option A) (y : Option B) → ((f ≡ OutOfMemory) ↔ (e ≡ OutOfMemory)) → (x ≡ None → y ≡ None) → FailsToParse e x → FailsToParse f y
 fails_behind e OutOfMemory x y same g h = tt
 fails_behind OutOfMemory (NotAFile k) x y same g h = absurd (let n = same.1 refl in cc)
 fails_behind (NotAFile j) (NotAFile k) x y same g h = g h

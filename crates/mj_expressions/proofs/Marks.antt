@@ -8,8 +8,8 @@ use Rattle.mj_tree.specs.Trees.{Name}
 use Rattle.mj_lexer.specs.declared.token.Terminal.{Terminal}
 use Rattle.mj_lexer.specs.declared.token.Token.{Token}
 use Rattle.mj_lexer.specs.declared.token.Terminal.TheVariants as terminals
-use Rattle.mj_lexer.specs.declared.token.Kind.{Kind}
-use Rattle.mj_lexer.specs.declared.token.Kind.TheVariants as kinds
+use Rattle.mj_lexer.specs.declared.token.TokenKind.{TokenKind}
+use Rattle.mj_lexer.specs.declared.token.TokenKind.TheVariants as kinds
 use Rattle.mj_tree.specs.declared.tree.Operator.{Operator}
 use Rattle.mj_tree.specs.declared.tree.Operator.TheVariants.{And, Less, Plus, Minus, Times}
 use Rattle.mj_expressions.specs.Tokens.{terminal_number, same_terminal, is_terminal, is_word, name_of, value_of, token_kind, kind_at, has, name_at, value_at, says}
@@ -19,7 +19,7 @@ use Rattle.mj_expressions.specs.ExpressionReading.{operator_here, operator_at, o
 eqb_flip : (a b : ℕ) → eqb a b ≡ false → eqb b a ≡ false
 eqb_flip a b h = ne_eqb b a (λ e. eqb-false a b h (sym e))
 
-terminal_other : (m n : Terminal) (k : Option Kind) → is_terminal m k ≡ true → same_terminal m n ≡ false → is_terminal n k ≡ false
+terminal_other : (m n : Terminal) (k : Option TokenKind) → is_terminal m k ≡ true → same_terminal m n ≡ false → is_terminal n k ≡ false
 terminal_other m n None h d = absurd cc
 terminal_other m n (Some (kinds.Identifier name)) h d = absurd cc
 terminal_other m n (Some (kinds.Literal value)) h d = absurd cc
@@ -29,7 +29,7 @@ pub has_other : (ts : List Token) (j : ℕ) (m n : Terminal) → has ts j m ≡ 
 unfolding has
 has_other ts j m n = terminal_other m n (kind_at ts j)
 
-named_not : (n : Terminal) (k : Option Kind) (name : List ℕ) → name_of k ≡ Some name → is_terminal n k ≡ false
+named_not : (n : Terminal) (k : Option TokenKind) (name : List ℕ) → name_of k ≡ Some name → is_terminal n k ≡ false
 named_not n None name h = refl
 named_not n (Some (kinds.Identifier x)) name h = refl
 named_not n (Some (kinds.Literal value)) name h = refl
@@ -39,7 +39,7 @@ pub has_named : (ts : List Token) (j : ℕ) (n : Terminal) (name : List ℕ) →
 unfolding has name_at
 has_named ts j n name = named_not n (kind_at ts j) name
 
-valued_not : (n : Terminal) (k : Option Kind) (value : ℕ) → value_of k ≡ Some value → is_terminal n k ≡ false
+valued_not : (n : Terminal) (k : Option TokenKind) (value : ℕ) → value_of k ≡ Some value → is_terminal n k ≡ false
 valued_not n None value h = refl
 valued_not n (Some (kinds.Identifier x)) value h = refl
 valued_not n (Some (kinds.Literal v)) value h = refl

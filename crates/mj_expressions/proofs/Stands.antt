@@ -1,15 +1,15 @@
 -- What stands at a place is what reading tests.
 use Rattle.std.proofs.Common.{◌≡◌, ℕ, ◌<◌, true, false, List, [], ◌∷◌, length, Option, Some, None, refl, sym, ap, ◌∙◌, ◌⊎◌, inl, inr, eq-eqb}
 use Rattle.std.specs.Prelude.{◌&&◌, slice_get, if◌then◌else◌}
-use Rattle.std.proofs.lemmas.Bool.{eqb-true}
+use Rattle.std.proofs.lemmas.Bool.{eqb-true, and_parts}
 use Rattle.mj_lexer.specs.declared.token.Token.{Token}
 use Rattle.mj_lexer.specs.declared.token.Terminal.{Terminal}
 use Rattle.mj_lexer.specs.declared.token.Terminal.TheVariants.{LeftBrace, RightBrace, LeftParenthesis, RightParenthesis, LeftBracket, RightBracket, Semicolon, Comma, Dot, Assign, And, Less, Plus, Minus, Times, Not, Class, Public, Static, Void, Extends, Return, Int, Boolean, If, Else, While, True, False, This, New}
-use Rattle.mj_lexer.specs.declared.token.Kind.{Kind}
-use Rattle.mj_lexer.specs.declared.token.Kind.TheVariants as kinds
+use Rattle.mj_lexer.specs.declared.token.TokenKind.{TokenKind}
+use Rattle.mj_lexer.specs.declared.token.TokenKind.TheVariants as kinds
 use Rattle.mj_expressions.specs.Tokens.{terminal_number, same_terminal, is_terminal, kind_at, has, Stands, StandsLaw}
 use Rattle.mj_expressions.specs.Steps.{when}
-use Rattle.mj_expressions.proofs.Binds.{if_some, when_some, and_both}
+use Rattle.mj_expressions.proofs.Binds.{if_some, when_some}
 use Rattle.mj_expressions.proofs.Marks.{has_within}
 
 -- the terminals by their numbers
@@ -58,13 +58,13 @@ same_is t u e =
     let a : Some u ≡ Some t = sym (terminal_at_number u) ∙ ap (slice_get all_terminals) (sym n) ∙ terminal_at_number t in
     cc
 
-terminal_there : (t : Terminal) (k : Option Kind) → is_terminal t k ≡ true → k ≡ Some (kinds.Terminal t)
+terminal_there : (t : Terminal) (k : Option TokenKind) → is_terminal t k ≡ true → k ≡ Some (kinds.Terminal t)
 terminal_there t None h = absurd cc
 terminal_there t (Some (kinds.Identifier name)) h = absurd cc
 terminal_there t (Some (kinds.Literal value)) h = absurd cc
 terminal_there t (Some (kinds.Terminal u)) h = ap (λ (x : Terminal). Some (kinds.Terminal x)) (same_is t u h)
 
-there_terminal : (t : Terminal) (k : Option Kind) → k ≡ Some (kinds.Terminal t) → is_terminal t k ≡ true
+there_terminal : (t : Terminal) (k : Option TokenKind) → k ≡ Some (kinds.Terminal t) → is_terminal t k ≡ true
 there_terminal t k e = rw e (eq-eqb (terminal_number t) (terminal_number t) refl)
 
 pub stands : (ts : List Token) (i : ℕ) (t : Terminal) → has ts i t ≡ true → Stands ts i t
@@ -90,4 +90,4 @@ pub if_stands : {A : Type 0} (ts : List Token) (i : ℕ) (t : Terminal) (o p : O
 if_stands ts i t o p y e = elim (if_some (has ts i t) o p y e) [ inl a ↦ inl (stands ts i t a.0, a.1) | inr a ↦ inr a ]
 
 pub both_stand : (ts : List Token) (i : ℕ) (t : Terminal) (j : ℕ) (u : Terminal) → (has ts i t && has ts j u) ≡ true → Stands ts i t × Stands ts j u
-both_stand ts i t j u e = let b = and_both (has ts i t) (has ts j u) e in (stands ts i t b.0, stands ts j u b.1)
+both_stand ts i t j u e = let b = and_parts (has ts i t) (has ts j u) e in (stands ts i t b.0, stands ts j u b.1)

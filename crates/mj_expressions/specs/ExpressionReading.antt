@@ -4,8 +4,8 @@ use Rattle.std.specs.Prelude.{ℕ, zero, suc, ◌+◌, Bool, true, false, ◌&&�
 use Rattle.mj_lexer.specs.declared.token.Token.{Token}
 use Rattle.mj_lexer.specs.declared.token.Terminal.{Terminal}
 use Rattle.mj_lexer.specs.declared.token.Terminal.TheVariants as terminals
-use Rattle.mj_lexer.specs.declared.token.Kind.{Kind}
-use Rattle.mj_lexer.specs.declared.token.Kind.TheVariants as kinds
+use Rattle.mj_lexer.specs.declared.token.TokenKind.{TokenKind}
+use Rattle.mj_lexer.specs.declared.token.TokenKind.TheVariants as kinds
 use Rattle.mj_tree.specs.declared.tree.Operator.{Operator}
 use Rattle.mj_tree.specs.declared.tree.Operator.TheVariants.{And, Less, Plus, Minus, Times}
 use Rattle.mj_expressions.specs.Tokens.{kind_at, has, says, name_at}
@@ -47,7 +47,7 @@ terminal_at part ts i terminals.LeftParenthesis =
     part any_tier (i + 1) >>= close ts terminals.RightParenthesis (Parenthesized i)
 terminal_at part ts i _ = None
 
-abbrev pub prim_of : TierParser → List Token → ℕ → Option Kind → Reading
+abbrev pub prim_of : TierParser → List Token → ℕ → Option TokenKind → Reading
 prim_of part ts i None = None
 prim_of part ts i (Some (kinds.Identifier name)) = Some (Named i name, i + 1)
 prim_of part ts i (Some (kinds.Literal value)) = Some (Literal i value, i + 1)

@@ -46,11 +46,11 @@ listed_at part ts i =
 
 -- What a function returned, seen by view, is what reading finds; a refusal says that it finds
 -- nothing, unless memory ran out.
-abbrev pub Fails : {A : Type 0} → ParseFault → Option A → Type 0
-Fails OutOfMemory found = Unit {0}
-Fails (NotAFile k) found = found ≡ None
-Fails TooDeep found = found ≡ None
+abbrev pub FailsToParse : {A : Type 0} → ParseFault → Option A → Type 0
+FailsToParse OutOfMemory found = Unit {0}
+FailsToParse (NotAFile k) found = found ≡ None
+FailsToParse TooDeep found = found ≡ None
 
 abbrev pub Finds : {X A : Type 0} → (X → A) → Result X ParseFault → Option A → Type 0
 Finds see (Ok x) found = found ≡ Some (see x)
-Finds see (Err e) found = Fails e found
+Finds see (Err e) found = FailsToParse e found

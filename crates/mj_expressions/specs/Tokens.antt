@@ -2,8 +2,8 @@
 use Rattle.std.specs.Prelude.{◌≡◌, ◌↔◌, ℕ, ◌+◌, Bool, true, false, ◌==◌, List, [], ◌∷◌, Option, Some, None, slice_get, if◌then◌else◌}
 use Rattle.std.specs.Str.{bytes_eq}
 use Rattle.mj_lexer.specs.declared.token.Token.{Token}
-use Rattle.mj_lexer.specs.declared.token.Kind.{Kind}
-use Rattle.mj_lexer.specs.declared.token.Kind.TheVariants as kinds
+use Rattle.mj_lexer.specs.declared.token.TokenKind.{TokenKind}
+use Rattle.mj_lexer.specs.declared.token.TokenKind.TheVariants as kinds
 use Rattle.mj_lexer.specs.declared.token.Terminal.{Terminal}
 use Rattle.mj_lexer.specs.declared.token.Terminal.TheVariants.{LeftBrace, RightBrace, LeftParenthesis, RightParenthesis, LeftBracket, RightBracket, Semicolon, Comma, Dot, Assign, And, Less, Plus, Minus, Times, Not, Class, Public, Static, Void, Extends, Return, Int, Boolean, If, Else, While, True, False, This, New}
 use Rattle.mj_tree.specs.Trees.{Name}
@@ -45,14 +45,14 @@ terminal_number New = 30
 abbrev pub same_terminal : Terminal → Terminal → Bool
 same_terminal a b = terminal_number a == terminal_number b
 
-abbrev pub token_kind : Option Token → Option Kind
+abbrev pub token_kind : Option Token → Option TokenKind
 token_kind None = None
 token_kind (Some token) = Some token.kind
 
-abbrev pub kind_at : List Token → ℕ → Option Kind
+abbrev pub kind_at : List Token → ℕ → Option TokenKind
 kind_at ts i = token_kind (slice_get ts i)
 
-abbrev pub is_terminal : Terminal → Option Kind → Bool
+abbrev pub is_terminal : Terminal → Option TokenKind → Bool
 is_terminal terminal None = false
 is_terminal terminal (Some (kinds.Identifier name)) = false
 is_terminal terminal (Some (kinds.Literal value)) = false
@@ -71,13 +71,13 @@ abbrev pub StandsLaw : Type 0
 StandsLaw = (ts : List Token) (i : ℕ) (terminal : Terminal)
     → Stands ts i terminal ↔ (has ts i terminal ≡ true)
 
-abbrev pub name_of : Option Kind → Option Name
+abbrev pub name_of : Option TokenKind → Option Name
 name_of None = None
 name_of (Some (kinds.Identifier name)) = Some name
 name_of (Some (kinds.Literal value)) = None
 name_of (Some (kinds.Terminal other)) = None
 
-abbrev pub value_of : Option Kind → Option ℕ
+abbrev pub value_of : Option TokenKind → Option ℕ
 value_of None = None
 value_of (Some (kinds.Identifier name)) = None
 value_of (Some (kinds.Literal value)) = Some value

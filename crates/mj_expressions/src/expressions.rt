@@ -13,7 +13,7 @@ ghost use Rattle.mj_expressions.specs.ExpressionReading.{close, object_at, new_a
 use crate::fault::ParseFault;
 use crate::nodes;
 use crate::tokens::{expect, expect_name, expect_two, has, kind, says};
-use mj_lexer::{Kind, Name, Terminal, Token};
+use mj_lexer::{Name, Terminal, Token, TokenKind};
 use mj_tree::{Exp, Operator};
 use std::alloc::Global;
 
@@ -614,9 +614,9 @@ fn prim(alloc: Global, tokens: &[Token], at: usize, room: usize) -> Result<ExpPa
     ensures low { IfOk result (λ x. x.height ≤ room + 1) }
 {
     match kind(tokens, at) {
-        Some(Kind::Identifier(name)) => Ok(single(nodes::variable(alloc, at, name)?, at)),
-        Some(Kind::Literal(value)) => Ok(single(nodes::literal(at, *value), at)),
-        Some(Kind::Terminal(terminal)) => match *terminal {
+        Some(TokenKind::Identifier(name)) => Ok(single(nodes::variable(alloc, at, name)?, at)),
+        Some(TokenKind::Literal(value)) => Ok(single(nodes::literal(at, *value), at)),
+        Some(TokenKind::Terminal(terminal)) => match *terminal {
             Terminal::True => Ok(single(nodes::boolean(at, true), at)),
             Terminal::False => Ok(single(nodes::boolean(at, false), at)),
             Terminal::This => Ok(single(nodes::this(at), at)),

@@ -4,7 +4,7 @@ ghost use Rattle.mj_expressions.specs.Tokens.{same_terminal, kind_at, has, name_
 ghost use Rattle.mj_expressions.specs.declared.fault.ParseFault.TheVariants.{NotAFile};
 
 use crate::fault::ParseFault;
-use mj_lexer::{Kind, Name, Terminal, Token};
+use mj_lexer::{Name, Terminal, Token, TokenKind};
 
 /// What was read, and the place after it.
 #[derive(Drop)]
@@ -20,7 +20,7 @@ fn is_same(a: Terminal, b: Terminal) -> bool
 }
 
 /// The kind of the token at a place.
-pub fn kind(tokens: &[Token], at: usize) -> Option<&Kind>
+pub fn kind(tokens: &[Token], at: usize) -> Option<&TokenKind>
     ensures value { MatchOption result (kind_at tokens.now at ≡ None)
         (λ k. kind_at tokens.now at ≡ Some k.now) }
     ensures within { IsSome result → at < length tokens.now }
@@ -38,7 +38,7 @@ pub fn has(tokens: &[Token], at: usize, terminal: Terminal) -> bool
     ensures within { IsTrue result → at < length tokens.now }
 {
     match kind(tokens, at) {
-        Some(Kind::Terminal(other)) => is_same(terminal, *other),
+        Some(TokenKind::Terminal(other)) => is_same(terminal, *other),
         _ => false,
     }
 }
@@ -51,7 +51,7 @@ pub fn name(tokens: &[Token], at: usize) -> Option<&Name>
     ensures within { IsSome result → at < length tokens.now }
 {
     match kind(tokens, at) {
-        Some(Kind::Identifier(name)) => Some(name),
+        Some(TokenKind::Identifier(name)) => Some(name),
         _ => None,
     }
 }

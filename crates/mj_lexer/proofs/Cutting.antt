@@ -2,7 +2,7 @@
 use Rattle.std.proofs.Common.{◌≡◌, ℕ, ◌+◌, List, [], ◌∷◌, length, drop, ◌≤◌, ◌++◌, append_assoc}
 use Rattle.std.proofs.lemmas.List.{drop-drop, append-nil, nil_from_length}
 use Rattle.mj_lexer.specs.declared.front.Problem.{Problem}
-use Rattle.mj_lexer.specs.declared.token.Kind.{Kind}
+use Rattle.mj_lexer.specs.declared.token.TokenKind.{TokenKind}
 use Rattle.mj_lexer.specs.declared.token.Token.{Token}
 use Rattle.mj_lexer.specs.declared.front.Front.TheVariants.{Blank, Word, Wrong}
 use Rattle.mj_lexer.specs.Fronts.{front_of}
@@ -15,7 +15,7 @@ pub after_blank : (at n : ℕ) (text : List ℕ) (before tokens : List Token) (t
     → Cuts (at + n) (drop (at + n) text) tokens till rest → Cuts 0 all (before ++ tokens) till rest
 after_blank at n text before tokens till rest all e so_far c = so_far tokens till rest (blank n (stands_there (drop at text) (Blank n) e) (rw drop-drop c))
 
-pub after_word : (at n : ℕ) (kind : Kind) (text : List ℕ) (before tokens : List Token) (till : ℕ) (rest all : List ℕ) → front_of (drop at text) ≡ Word kind n
+pub after_word : (at n : ℕ) (kind : TokenKind) (text : List ℕ) (before tokens : List Token) (till : ℕ) (rest all : List ℕ) → front_of (drop at text) ≡ Word kind n
     → ((ts : List Token) (till : ℕ) (rest : List ℕ) → Cuts at (drop at text) ts till rest → Cuts 0 all (before ++ ts) till rest)
     → Cuts (at + n) (drop (at + n) text) tokens till rest → Cuts 0 all ((before ++ record { kind = kind; start = at; end = at + n } ∷ []) ++ tokens) till rest
 after_word at n kind text before tokens till rest all e so_far c = rw append_assoc (so_far (record { kind = kind; start = at; end = at + n } ∷ tokens) till rest (word kind n (stands_there (drop at text) (Word kind n) e) (rw drop-drop c)))

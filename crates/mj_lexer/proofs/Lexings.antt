@@ -5,7 +5,7 @@ use Rattle.std.specs.Global.{Vec}
 use Rattle.std.specs.Result.{result_ok, result_err}
 use Rattle.std.proofs.lemmas.List.{length-drop, nil_from_length}
 use Rattle.std.proofs.lemmas.Bool.Decides.{nat_tests}
-use Rattle.mj_lexer.specs.declared.token.Kind.{Kind}
+use Rattle.mj_lexer.specs.declared.token.TokenKind.{TokenKind}
 use Rattle.mj_lexer.specs.declared.token.Token.{Token}
 use Rattle.mj_lexer.specs.declared.front.Problem.{Problem}
 use Rattle.mj_lexer.specs.declared.front.Problem.TheVariants as problems
@@ -14,7 +14,7 @@ use Rattle.mj_lexer.specs.declared.front.Front.TheVariants.{Nothing, Blank, Word
 use Rattle.mj_lexer.specs.declared.lexer.LexFault.{LexFault}
 use Rattle.mj_lexer.specs.declared.lexer.LexFault.TheVariants.{BadByte, OpenComment, NameTooLong, FileTooLong, OutOfMemory}
 use Rattle.mj_lexer.specs.Fronts.{front_of, IsWithin}
-use Rattle.mj_lexer.specs.Pieces.{Stands}
+use Rattle.mj_lexer.specs.Pieces.{StandsInFront}
 use Rattle.mj_lexer.specs.Lexes.{limit, Cuts, here, blank, word, Lexes, BreaksAt, Breaks, fault_at}
 use Rattle.mj_lexer.specs.Lexing.{Lexing, put_first, lexing_from, lexing_of, tokens_of, lex_fault_of}
 use Rattle.mj_lexer.proofs.Within.{front_within}
@@ -36,7 +36,7 @@ put_all-Err (token ∷ tokens) fault = ap (put_first token) (put_all-Err tokens 
 blank_within : (text : List ℕ) (n : ℕ) → front_of text ≡ Blank n → (0 < n) × (n ≤ length text)
 blank_within text n e = subst (IsWithin (length text)) e (front_within text)
 
-word_within : (text : List ℕ) (kind : Kind) (n : ℕ) → front_of text ≡ Word kind n → (0 < n) × (n ≤ length text)
+word_within : (text : List ℕ) (kind : TokenKind) (n : ℕ) → front_of text ≡ Word kind n → (0 < n) × (n ≤ length text)
 word_within text kind n e = subst (IsWithin (length text)) e (front_within text)
 
 -- a cut is followed, whatever agrees behind it
@@ -103,7 +103,7 @@ record CutUp (at : ℕ) (text : List ℕ) : Type 0 where
   pub till : ℕ
   pub rest : List ℕ
   pub cut : Cuts at text tokens till rest
-  pub stop : (rest ≡ []) ⊎ ((problem : Problem) × Stands rest (Wrong problem))
+  pub stop : (rest ≡ []) ⊎ ((problem : Problem) × StandsInFront rest (Wrong problem))
 
 cut_up : (pieces at : ℕ) (text : List ℕ) → length text ≤ pieces → CutUp at text
 cut_up zero at text le = record { tokens = []; till = at; rest = text; cut = here; stop = inl (nil_from_length text (omega arith)) }
@@ -134,7 +134,7 @@ breaks_fault text at problems.Name b = b
 short_agrees : (text : List ℕ) → length text ≤ limit → Agrees text (lexing_of text)
 short_agrees text short = by_stop (cut_up (length text) 0 text (omega arith))
   where
-    by_end : (tokens : List Token) (till : ℕ) (rest : List ℕ) → Cuts 0 text tokens till rest → (rest ≡ []) ⊎ ((problem : Problem) × Stands rest (Wrong problem)) → Agrees text (lexing_of text)
+    by_end : (tokens : List Token) (till : ℕ) (rest : List ℕ) → Cuts 0 text tokens till rest → (rest ≡ []) ⊎ ((problem : Problem) × StandsInFront rest (Wrong problem)) → Agrees text (lexing_of text)
     by_end tokens till rest cut (inl e) =
         let l : Lexes text tokens = record { short = short; till = till; cut = subst (Cuts 0 text tokens till) e cut } in
         rw (lexes_gives text tokens l) l

@@ -8,7 +8,7 @@ use Rattle.std.proofs.lemmas.List.Sums.{prefix_len-le-length}
 use Rattle.std.proofs.lemmas.List.Folds.{length-prefix_len}
 use Rattle.std.proofs.lemmas.Bool.Decides.{nat_tests}
 use Rattle.std.proofs.lemmas.Slice.Eq.{bytes_eq-Decides}
-use Rattle.mj_lexer.specs.declared.token.Kind.TheVariants.{Identifier}
+use Rattle.mj_lexer.specs.declared.token.TokenKind.TheVariants.{Identifier}
 use Rattle.mj_lexer.specs.declared.token.Terminal.{Terminal}
 use Rattle.mj_lexer.specs.declared.token.Terminal.TheVariants.{LeftBrace, RightBrace, LeftParenthesis, RightParenthesis, LeftBracket, RightBracket, Semicolon, Comma, Dot, Assign, Less, Plus, Minus, Times, Not, Class, Public, Static, Void, Extends, Return, Int, Boolean, If, Else, While, True, False, This, New}
 use Rattle.mj_lexer.specs.declared.front.Problem.TheVariants as problems
@@ -17,7 +17,7 @@ use Rattle.mj_lexer.specs.declared.front.Front.TheVariants.{Nothing, Blank, Word
 use Rattle.mj_lexer.specs.Bytes.{is_white, is_letter, is_digit, is_name_byte, is_line_byte, opens, closes}
 use Rattle.mj_lexer.specs.Words.{text_of, symbol_of, reserved_of, kind_of_word}
 use Rattle.mj_lexer.specs.Fronts.{after_comment, found_symbol, found_comment, slash_front, and_front, name_front, number_front, front_of, IsWithin}
-use Rattle.mj_lexer.specs.Pieces.{is_word, IsBlank, white, line_comment, closed_comment, IsToken, IsLongest, HasNoPiece, OpensComment, IsShort, Stands}
+use Rattle.mj_lexer.specs.Pieces.{is_word, IsBlank, white, line_comment, closed_comment, IsToken, IsLongest, HasNoPiece, OpensComment, IsShort, StandsInFront}
 use Rattle.mj_lexer.proofs.Within.{either_way, letter_in_name, front_within}
 use Rattle.mj_lexer.proofs.Taken.{TerminalIs, symbol, reserved, terminal_is, Takes, piece_taken}
 
@@ -214,10 +214,10 @@ longest_taken text n le most = record {
 none_taken : (text : List ℕ) → ((m : ℕ) → Takes text m (front_of text) → ⊥) → HasNoPiece text
 none_taken text none bytes rest e piece = none (length bytes) (subst (λ (t : List ℕ). Takes t (length bytes) (front_of t)) (sym e) (piece_taken bytes rest piece))
 
-pub front_stands : (text : List ℕ) → Stands text (front_of text)
+pub front_stands : (text : List ℕ) → StandsInFront text (front_of text)
 front_stands text = by_front (front_of text) refl (front_sound text) (front_within text)
   where
-    by_front : (front : Front) → front_of text ≡ front → Sound text front → IsWithin (length text) front → Stands text front
+    by_front : (front : Front) → front_of text ≡ front → Sound text front → IsWithin (length text) front → StandsInFront text front
     by_front Nothing e sound within = sound
     by_front (Blank n) e sound within = (longest_taken text n within.1 (λ m taken. subst (Takes text m) e taken), sound)
     by_front (Word kind n) e sound within = (longest_taken text n within.1 (λ m taken. subst (Takes text m) e taken), sound.0, sound.1)

@@ -4,7 +4,7 @@ use Rattle.std.specs.List.{prefix_len, slice_index}
 use Rattle.std.specs.Str.{IsAscii}
 use Rattle.mj_lexer.specs.Bytes.{is_name_byte}
 
-name_byte_small : (b : ℕ) → is_name_byte b ≡ true → b < 128
+pub name_byte_small : (b : ℕ) → is_name_byte b ≡ true → b < 128
 name_byte_small b e = grind arith
 
 none_small : (i : ℕ) → slice_index [] i < 128

@@ -5,9 +5,10 @@ use Rattle.std.specs.List.{prefix_len, list_all}
 use Rattle.std.proofs.lemmas.List.{take-append-drop, take_all, append-nil, length-take}
 use Rattle.std.proofs.lemmas.List.Sums.{prefix_len-le-length}
 use Rattle.std.proofs.lemmas.Bool.Decides.{nat_tests}
-use Rattle.mj_lexer.specs.declared.token.Kind.{Kind}
-use Rattle.mj_lexer.specs.declared.token.Kind.TheVariants.{Identifier, Literal}
-use Rattle.mj_lexer.specs.declared.token.Kind.TheVariants as kinds
+use Rattle.std.proofs.lemmas.Bool.{and_parts}
+use Rattle.mj_lexer.specs.declared.token.TokenKind.{TokenKind}
+use Rattle.mj_lexer.specs.declared.token.TokenKind.TheVariants.{Identifier, Literal}
+use Rattle.mj_lexer.specs.declared.token.TokenKind.TheVariants as kinds
 use Rattle.mj_lexer.specs.declared.token.Terminal.{Terminal}
 use Rattle.mj_lexer.specs.declared.front.Problem.TheVariants as problems
 use Rattle.mj_lexer.specs.declared.front.Front.{Front}
@@ -15,8 +16,8 @@ use Rattle.mj_lexer.specs.declared.front.Front.TheVariants.{Nothing, Blank, Word
 use Rattle.mj_lexer.specs.Bytes.{is_letter, is_digit, is_name_byte, is_line_byte}
 use Rattle.mj_lexer.specs.Words.{text_of, reserved_of, kind_of_word}
 use Rattle.mj_lexer.specs.Fronts.{name_front, number_front, front_of}
-use Rattle.mj_lexer.specs.Pieces.{is_word, is_number, IsBlank, white, line_comment, closed_comment, IsToken, IsPiece, IsLongest, HasNoPiece, OpensComment, IsShort, Stands}
-use Rattle.mj_lexer.proofs.Taken.{TerminalIs, symbol, reserved, terminal_is, piece_taken, passing_prefix, both_true, front_of-letter, front_of-digit}
+use Rattle.mj_lexer.specs.Pieces.{is_word, is_number, IsBlank, white, line_comment, closed_comment, IsToken, IsPiece, IsLongest, HasNoPiece, OpensComment, IsShort, StandsInFront}
+use Rattle.mj_lexer.proofs.Taken.{TerminalIs, symbol, reserved, terminal_is, piece_taken, passing_prefix, front_of-letter, front_of-digit}
 use Rattle.mj_lexer.proofs.Longest.{reserved_text, front_stands}
 
 -- ---- a piece alone is read as that piece
@@ -37,13 +38,13 @@ blank_alone (b ∷ c ∷ bytes) (closed_comment e) = let n : length (b ∷ c ∷
 word_alone : (bytes : List ℕ) → is_word bytes ≡ true → front_of bytes ≡ name_front bytes (length bytes)
 word_alone [] e = absurd cc
 word_alone (b ∷ bytes) e =
-    let parts = both_true (is_letter b) (list_all is_name_byte bytes) e in
+    let parts = and_parts (is_letter b) (list_all is_name_byte bytes) e in
     front_of-letter b bytes parts.0 ∙ ap (name_front (b ∷ bytes)) (whole_prefix is_name_byte (b ∷ bytes) (rw (parts.0, parts.1) refl))
 
 number_alone : (bytes : List ℕ) → is_number bytes ≡ true → front_of bytes ≡ number_front bytes (length bytes)
 number_alone [] e = absurd cc
 number_alone (b ∷ bytes) e =
-    let parts = both_true (is_digit b) (list_all is_digit bytes) e in
+    let parts = and_parts (is_digit b) (list_all is_digit bytes) e in
     front_of-digit b bytes parts.0 ∙ ap (number_front (b ∷ bytes)) (whole_prefix is_digit (b ∷ bytes) (rw (parts.0, parts.1) refl))
 
 short_word : (bytes : List ℕ) → is_word bytes ≡ true → length bytes ≤ 255 → front_of bytes ≡ Word (kind_of_word bytes) (length bytes)
@@ -68,7 +69,7 @@ terminal_alone : (terminal : Terminal) → TerminalIs terminal → front_of (tex
 terminal_alone terminal (symbol single other e) = rw append-nil at (e [])
 terminal_alone terminal (reserved word short e) = short_word (text_of terminal) word (grind (arith, nat_tests)) ∙ rw e refl
 
-token_alone : (bytes : List ℕ) (kind : Kind) → IsToken bytes kind → IsShort kind → front_of bytes ≡ Word kind (length bytes)
+token_alone : (bytes : List ℕ) (kind : TokenKind) → IsToken bytes kind → IsShort kind → front_of bytes ≡ Word kind (length bytes)
 token_alone bytes (Identifier name) is short =
     let same = is.1 in
     let len : length bytes ≤ 255 = omega (arith, ap length same) in
@@ -90,7 +91,7 @@ data Reading (text : List ℕ) (front : Front) : Type 0 where
 piece_len : (text : List ℕ) (n : ℕ) → IsLongest text n → length (take n text) ≡ n
 piece_len text n l = let w = l.within in omega (arith, length-take n text)
 
-reading : (text : List ℕ) (front : Front) → Stands text front → Reading text front
+reading : (text : List ℕ) (front : Front) → StandsInFront text front → Reading text front
 reading text Nothing e = at_end e refl
 reading text (Blank n) (l, is) = piece n l (inl is) (blank_alone (take n text) is ∙ ap Blank (piece_len text n l))
 reading text (Word kind n) (l, is, short) = piece n l (inr (kind, is)) (token_alone (take n text) kind is short ∙ ap (Word kind) (piece_len text n l))
@@ -134,12 +135,12 @@ one_reading text f g (at_byte some c none e) (at_end i j) = absurd (some i)
 one_reading text f g (at_byte some c none e) (in_comment o other i) = absurd (c o)
 one_reading text f g (at_byte some c none e) (at_byte others d other i) = e ∙ sym i
 
-pub one_front : (text : List ℕ) (f g : Front) → Stands text f → Stands text g → f ≡ g
+pub one_front : (text : List ℕ) (f g : Front) → StandsInFront text f → StandsInFront text g → f ≡ g
 one_front text f g a b = one_reading text f g (reading text f a) (reading text g b)
 
 -- so it stands there exactly where it is read
-pub stands_there : (text : List ℕ) (front : Front) → front_of text ≡ front → Stands text front
-stands_there text front e = subst (Stands text) e (front_stands text)
+pub stands_there : (text : List ℕ) (front : Front) → front_of text ≡ front → StandsInFront text front
+stands_there text front e = subst (StandsInFront text) e (front_stands text)
 
-pub front_is : (text : List ℕ) (front : Front) → Stands text front → front_of text ≡ front
+pub front_is : (text : List ℕ) (front : Front) → StandsInFront text front → front_of text ≡ front
 front_is text front stands = one_front text (front_of text) front (front_stands text) stands

@@ -3,9 +3,10 @@ use Rattle.std.proofs.Common.{◌≡◌, ℕ, zero, suc, ◌≤◌, Bool, true, 
 use Rattle.std.specs.Prelude.{if◌then◌else◌, nat_lt, nat_le}
 use Rattle.std.specs.List.{prefix_len, list_all}
 use Rattle.std.proofs.lemmas.Bool.Decides.{nat_tests}
-use Rattle.mj_lexer.specs.declared.token.Kind.{Kind}
-use Rattle.mj_lexer.specs.declared.token.Kind.TheVariants.{Identifier, Literal}
-use Rattle.mj_lexer.specs.declared.token.Kind.TheVariants as kinds
+use Rattle.std.proofs.lemmas.Bool.{and_parts}
+use Rattle.mj_lexer.specs.declared.token.TokenKind.{TokenKind}
+use Rattle.mj_lexer.specs.declared.token.TokenKind.TheVariants.{Identifier, Literal}
+use Rattle.mj_lexer.specs.declared.token.TokenKind.TheVariants as kinds
 use Rattle.mj_lexer.specs.declared.token.Terminal.{Terminal}
 use Rattle.mj_lexer.specs.declared.token.Terminal.TheVariants.{LeftBrace, RightBrace, LeftParenthesis, RightParenthesis, LeftBracket, RightBracket, Semicolon, Comma, Dot, Assign, And, Less, Plus, Minus, Times, Not, Class, Public, Static, Void, Extends, Return, Int, Boolean, If, Else, While, True, False, This, New}
 use Rattle.mj_lexer.specs.declared.front.Problem.TheVariants as problems
@@ -74,10 +75,6 @@ passing_prefix p (b ∷ bytes) rest e = by_first (p b) refl e (passing_prefix p 
     by_first true f e behind = let l = behind e in rw f (omega arith)
     by_first false f e behind = absurd cc
 
-pub both_true : (s t : Bool) → (s && t) ≡ true → (s ≡ true) × (t ≡ true)
-both_true true t e = (refl, e)
-both_true false t e = absurd cc
-
 pub letter_not_white : (b : ℕ) → is_letter b ≡ true → is_white b ≡ false
 letter_not_white b e = grind (arith, nat_tests)
 
@@ -126,7 +123,7 @@ closed_comment_taken bytes rest e = rw (after_comment-append 1 bytes rest [] e) 
 word_taken : (bytes rest : List ℕ) → is_word bytes ≡ true → Takes (bytes ++ rest) (length bytes) (front_of (bytes ++ rest))
 word_taken [] rest e = absurd cc
 word_taken (b ∷ bytes) rest e =
-    let parts = both_true (is_letter b) (list_all is_name_byte bytes) e in
+    let parts = and_parts (is_letter b) (list_all is_name_byte bytes) e in
     let l = passing_prefix is_name_byte (b ∷ bytes) rest (rw (parts.0, parts.1) refl) in
     let P : Front → Type 0 = Takes (b ∷ bytes ++ rest) (length (b ∷ bytes)) in
     subst P (sym (front_of-letter b (bytes ++ rest) parts.0)) (either_way P (nat_lt 255 (prefix_len is_name_byte (b ∷ bytes ++ rest))) _ _ (λ _. l) (λ _. l))
@@ -134,14 +131,14 @@ word_taken (b ∷ bytes) rest e =
 number_taken : (bytes rest : List ℕ) → is_number bytes ≡ true → Takes (bytes ++ rest) (length bytes) (front_of (bytes ++ rest))
 number_taken [] rest e = absurd cc
 number_taken (b ∷ bytes) rest e =
-    let parts = both_true (is_digit b) (list_all is_digit bytes) e in
+    let parts = and_parts (is_digit b) (list_all is_digit bytes) e in
     subst (Takes (b ∷ bytes ++ rest) (length (b ∷ bytes))) (sym (front_of-digit b (bytes ++ rest) parts.0)) (passing_prefix is_digit (b ∷ bytes) rest (rw (parts.0, parts.1) refl))
 
 terminal_taken : (terminal : Terminal) (rest : List ℕ) → TerminalIs terminal → Takes (text_of terminal ++ rest) (length (text_of terminal)) (front_of (text_of terminal ++ rest))
 terminal_taken terminal rest (symbol single other e) = rw (e rest) (omega arith)
 terminal_taken terminal rest (reserved word short e) = word_taken (text_of terminal) rest word
 
-token_taken : (bytes rest : List ℕ) (kind : Kind) → IsToken bytes kind → Takes (bytes ++ rest) (length bytes) (front_of (bytes ++ rest))
+token_taken : (bytes rest : List ℕ) (kind : TokenKind) → IsToken bytes kind → Takes (bytes ++ rest) (length bytes) (front_of (bytes ++ rest))
 token_taken bytes rest (Identifier name) is = word_taken bytes rest is.0
 token_taken bytes rest (Literal value) is = number_taken bytes rest is.0
 token_taken bytes rest (kinds.Terminal terminal) is =

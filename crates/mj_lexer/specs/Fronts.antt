@@ -1,7 +1,7 @@
 -- What stands at the front of a text.
 use Rattle.std.specs.Prelude.{◌≡◌, ℕ, zero, suc, ◌+◌, ◌-◌, ◌<◌, ◌≤◌, ◌==◌, nat_lt, List, [], ◌∷◌, length, take, Option, Some, None, if◌then◌else◌}
 use Rattle.std.specs.List.{prefix_len}
-use Rattle.mj_lexer.specs.declared.token.Kind.TheVariants as kinds
+use Rattle.mj_lexer.specs.declared.token.TokenKind.TheVariants as kinds
 use Rattle.mj_lexer.specs.declared.token.Terminal.{Terminal}
 use Rattle.mj_lexer.specs.declared.token.Terminal.TheVariants.{And}
 use Rattle.mj_lexer.specs.declared.front.Problem.TheVariants as problems

@@ -2,9 +2,9 @@
 -- there.
 use Rattle.std.specs.Prelude.{◌≡◌, ◌≢◌, ℕ, ◌<◌, ◌≤◌, Bool, false, ◌&&◌, IsTrue, List, [], ◌∷◌, ◌++◌, length, take, Some, ◌⊎◌}
 use Rattle.std.specs.List.{list_all}
-use Rattle.mj_lexer.specs.declared.token.Kind.{Kind}
-use Rattle.mj_lexer.specs.declared.token.Kind.TheVariants.{Identifier, Literal}
-use Rattle.mj_lexer.specs.declared.token.Kind.TheVariants as kinds
+use Rattle.mj_lexer.specs.declared.token.TokenKind.{TokenKind}
+use Rattle.mj_lexer.specs.declared.token.TokenKind.TheVariants.{Identifier, Literal}
+use Rattle.mj_lexer.specs.declared.token.TokenKind.TheVariants as kinds
 use Rattle.mj_lexer.specs.declared.token.Terminal.{Terminal}
 use Rattle.mj_lexer.specs.declared.front.Problem.TheVariants as problems
 use Rattle.mj_lexer.specs.declared.front.Front.{Front}
@@ -30,14 +30,14 @@ pub data IsBlank : List ℕ → Type 0 where
   closed_comment : {bytes : List ℕ} → after_comment 1 bytes ≡ Some [] → IsBlank (47 ∷ 42 ∷ bytes)
 
 -- a word that isn't reserved, a number, or what a symbol or a reserved word is written as
-abbrev pub IsToken : List ℕ → Kind → Type 0
+abbrev pub IsToken : List ℕ → TokenKind → Type 0
 IsToken bytes (Identifier name) =
     IsTrue (is_word bytes) × (name ≡ bytes) × ((terminal : Terminal) → text_of terminal ≢ bytes)
 IsToken bytes (Literal value) = IsTrue (is_number bytes) × (value ≡ literal_value bytes)
 IsToken bytes (kinds.Terminal terminal) = bytes ≡ text_of terminal
 
 abbrev pub IsPiece : List ℕ → Type 0
-IsPiece bytes = IsBlank bytes ⊎ ((kind : Kind) × IsToken bytes kind)
+IsPiece bytes = IsBlank bytes ⊎ ((kind : TokenKind) × IsToken bytes kind)
 
 -- no piece at the front of the text is longer
 pub record IsLongest (text : List ℕ) (n : ℕ) : Type 0 where
@@ -51,18 +51,18 @@ abbrev pub OpensComment : List ℕ → Type 0
 OpensComment text = (rest : List ℕ) × (text ≡ 47 ∷ 42 ∷ rest)
 
 -- an identifier has at most this many bytes
-abbrev pub IsShort : Kind → Type 0
+abbrev pub IsShort : TokenKind → Type 0
 IsShort (Identifier name) = length name ≤ most_name_bytes
 IsShort (Literal value) = Unit {0}
 IsShort (kinds.Terminal terminal) = Unit {0}
 
 -- this stands at the front of the text
-abbrev pub Stands : List ℕ → Front → Type 0
-Stands text Nothing = text ≡ []
-Stands text (Blank n) = IsLongest text n × IsBlank (take n text)
-Stands text (Word kind n) = IsLongest text n × IsToken (take n text) kind × IsShort kind
-Stands text (Wrong problems.Name) =
+abbrev pub StandsInFront : List ℕ → Front → Type 0
+StandsInFront text Nothing = text ≡ []
+StandsInFront text (Blank n) = IsLongest text n × IsBlank (take n text)
+StandsInFront text (Word kind n) = IsLongest text n × IsToken (take n text) kind × IsShort kind
+StandsInFront text (Wrong problems.Name) =
     (n : ℕ) × IsLongest text n × IsToken (take n text) (Identifier (take n text))
     × (most_name_bytes < n)
-Stands text (Wrong problems.Comment) = OpensComment text × HasNoPiece text
-Stands text (Wrong problems.Byte) = (text ≢ []) × (OpensComment text → ⊥) × HasNoPiece text
+StandsInFront text (Wrong problems.Comment) = OpensComment text × HasNoPiece text
+StandsInFront text (Wrong problems.Byte) = (text ≢ []) × (OpensComment text → ⊥) × HasNoPiece text

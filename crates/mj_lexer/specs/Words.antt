@@ -1,8 +1,8 @@
 -- Reserved words and symbols.
 use Rattle.std.specs.Prelude.{ℕ, ◌==◌, List, Option, Some, None, codes, if◌then◌else◌}
 use Rattle.std.specs.Str.{bytes_eq}
-use Rattle.mj_lexer.specs.declared.token.Kind.{Kind}
-use Rattle.mj_lexer.specs.declared.token.Kind.TheVariants as kinds
+use Rattle.mj_lexer.specs.declared.token.TokenKind.{TokenKind}
+use Rattle.mj_lexer.specs.declared.token.TokenKind.TheVariants as kinds
 use Rattle.mj_lexer.specs.declared.token.Terminal.{Terminal}
 use Rattle.mj_lexer.specs.declared.token.Terminal.TheVariants.{LeftBrace, RightBrace, LeftParenthesis, RightParenthesis, LeftBracket, RightBracket, Semicolon, Comma, Dot, Assign, And, Less, Plus, Minus, Times, Not, Class, Public, Static, Void, Extends, Return, Int, Boolean, If, Else, While, True, False, This, New}
 
@@ -79,9 +79,9 @@ reserved_of text =
     if bytes_eq text (codes "new") then Some New else None))))))))))))))
 
 -- a reserved word, or a name
-abbrev pub kind_of_word : List ℕ → Kind
+abbrev pub kind_of_word : List ℕ → TokenKind
 kind_of_word text = word_of text (reserved_of text)
   where
-    word_of : List ℕ → Option Terminal → Kind
+    word_of : List ℕ → Option Terminal → TokenKind
     word_of text None = kinds.Identifier text
     word_of text (Some terminal) = kinds.Terminal terminal

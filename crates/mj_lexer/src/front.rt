@@ -7,7 +7,7 @@ ghost use Rattle.mj_lexer.specs.Words.{symbol_of, reserved_of, kind_of_word};
 ghost use Rattle.mj_lexer.specs.Fronts.{after_comment, slash_front, front_of, IsWithin};
 
 use crate::name::Name;
-use crate::token::{Kind, Terminal};
+use crate::token::{Terminal, TokenKind};
 use std::alloc::{AllocError, Global};
 use std::str;
 
@@ -33,7 +33,7 @@ pub enum Front {
     /// White space or a comment.
     Blank(usize),
     /// A token.
-    Word(Kind, usize),
+    Word(TokenKind, usize),
     /// None of these.
     Wrong(Problem),
 }
@@ -195,15 +195,15 @@ fn reserved_word(text: &[u8]) -> Option<Terminal>
 }
 
 /// A reserved word, or else an identifier.
-fn word_kind(alloc: Global, text: &[u8]) -> Result<Kind, AllocError>
+fn word_kind(alloc: Global, text: &[u8]) -> Result<TokenKind, AllocError>
     requires some { 0 < length text.now }
     requires short { length text.now ≤ most_name_bytes }
     requires ascii { IsAscii text.now }
     ensures { IfOk result (λ k. k ≡ kind_of_word text.now) }
 {
     match reserved_word(text) {
-        Some(terminal) => Ok(Kind::Terminal(terminal)),
-        None => Ok(Kind::Identifier(Name::new(alloc, as_text(text))?)),
+        Some(terminal) => Ok(TokenKind::Terminal(terminal)),
+        None => Ok(TokenKind::Identifier(Name::new(alloc, as_text(text))?)),
     }
 }
 
@@ -271,18 +271,18 @@ pub(crate) fn read_front(alloc: Global, text: &[u8]) -> Result<Front, AllocError
         Ok(Front::Word(kind, n))
     } else if is_digit(first) {
         let n = digits_len(text);
-        Ok(Front::Word(Kind::Literal(number(&text[..n])), n))
+        Ok(Front::Word(TokenKind::Literal(number(&text[..n])), n))
     } else if first == b'/' {
         Ok(behind_slash(&text[1..]))
     } else if first == b'&' {
         if text.len() > 1 && text[1] == b'&' {
-            Ok(Front::Word(Kind::Terminal(Terminal::And), 2))
+            Ok(Front::Word(TokenKind::Terminal(Terminal::And), 2))
         } else {
             Ok(Front::Wrong(Problem::Byte))
         }
     } else {
         match symbol(first) {
-            Some(terminal) => Ok(Front::Word(Kind::Terminal(terminal), 1)),
+            Some(terminal) => Ok(Front::Word(TokenKind::Terminal(terminal), 1)),
             None => Ok(Front::Wrong(Problem::Byte)),
         }
     }

@@ -6,7 +6,7 @@ ghost use Rattle.mj_lexer.specs.declared.token.Token.{Token};
 ghost use Rattle.mj_lexer.specs.declared.front.Front.{Front};
 ghost use Rattle.mj_lexer.specs.declared.lexer.LexFault.{LexFault};
 ghost use Rattle.mj_lexer.specs.Fronts.{front_of};
-ghost use Rattle.mj_lexer.specs.Pieces.{Stands};
+ghost use Rattle.mj_lexer.specs.Pieces.{StandsInFront};
 ghost use Rattle.mj_lexer.specs.Lexes.{Lexes, Breaks};
 ghost use Rattle.mj_lexer.specs.Lexing.{tokens_of, lex_fault_of};
 
@@ -23,8 +23,8 @@ pub fn lexing_laws(text: &[u8])
 
 /// What is read at the front of a text is what stands there and nothing else: the longest piece, or what is wrong.
 pub fn front_laws(text: &[u8])
-    ensures stands { Stands text.now (front_of text.now) }
-    ensures only { (front : Front) → Stands text.now front → front ≡ front_of text.now }
+    ensures stands { StandsInFront text.now (front_of text.now) }
+    ensures only { (front : Front) → StandsInFront text.now front → front ≡ front_of text.now }
 {}
 
 /// Names are equal where their texts are; their order is total, and ties only equal names.

@@ -13,4 +13,4 @@ pub use laws::{front_laws, lexing_laws, name_laws};
 pub use lexer::{LexFault, lex};
 pub use name::Name;
 pub use place::line_col;
-pub use token::{Kind, Terminal, Token};
+pub use token::{Terminal, Token, TokenKind};

@@ -70,7 +70,7 @@ pub enum Terminal {
 
 /// What a token is.
 #[derive(PartialEq, Eq)]
-pub enum Kind {
+pub enum TokenKind {
     /// A name that isn't reserved.
     Identifier(Name),
     /// A decimal literal with its value, which saturates at 2147483648.
@@ -79,10 +79,10 @@ pub enum Kind {
     Terminal(Terminal),
 }
 
-impl Drop for Kind {
+impl Drop for TokenKind {
     fn drop(self) {
         match self {
-            Kind::Identifier(_) | Kind::Literal(_) | Kind::Terminal(_) => {}
+            TokenKind::Identifier(_) | TokenKind::Literal(_) | TokenKind::Terminal(_) => {}
         }
     }
 }
@@ -90,7 +90,7 @@ impl Drop for Kind {
 /// A token and its place in the text.
 #[derive(PartialEq, Eq)]
 pub struct Token {
-    pub kind: Kind,
+    pub kind: TokenKind,
     /// The number of its first byte, counted from 0.
     pub start: usize,
     /// The number of the byte behind its last.

@@ -17,6 +17,7 @@ use Rattle.std.proofs.lemmas.Map.Lookups.{exact_bytes}
 use Rattle.std.proofs.lemmas.Map.Views.{tells_apart}
 use denote.Ref.{Bor}
 use Rattle.mj_tree.specs.Trees.{Name}
+use Rattle.mj_tree.proofs.Positions.{none_of}
 use Rattle.mj_members.specs.Declarations.{ClassDecl}
 use Rattle.mj_members.specs.Tables.{own_rows, all_along, firsts}
 use Rattle.mj_members.specs.Rows.{rows_by, SayAlike}
@@ -61,10 +62,6 @@ alike_put {A} xs zs k v h new n =
   where
     nothing : under k zs ≡ None
     nothing = sym (h k) ∙ none_of (under k xs) new
-      where
-        none_of : (o : Option A) → is_some o ≡ false → o ≡ None
-        none_of None e = refl
-        none_of (Some a) e = absurd cc
 
 -- ---- entries of a map
 
@@ -91,7 +88,7 @@ rows_has {X} {A} view (e ∷ es) n = by (is_eq (slice_cmp nat_cmp n e.0.now)) (r
     by true h = refl
     by false h = h
 
-both_hold : (a b : Bool) → T a → T b → T (a && b)
+pub both_hold : (a b : Bool) → T a → T b → T (a && b)
 both_hold true b p q = q
 both_hold false b p q = p
 
@@ -104,7 +101,8 @@ unfolding IsStrictlySortedBy
 sorted_rows view [] h = tt
 sorted_rows view (e ∷ es) h = both_hold _ _ (below_rows view e.0 es h.0) (sorted_rows view es h.1)
 
-values_rows : {X A : Type 0} (view : X → A) (es : List (Bor Name × X)) → values_of (rows_by view es) ≡ map view (values_of es)
+-- the values of the rows are those of the map, each seen
+pub values_rows : {X A : Type 0} (view : X → A) (es : List (Bor Name × X)) → values_of (rows_by view es) ≡ map view (values_of es)
 values_rows view [] = refl
 values_rows view (e ∷ es) = ap (λ ys. view e.1 ∷ ys) (values_rows view es)
 
@@ -148,10 +146,6 @@ pub all_rows : {X Y A : Type 0} (seen : X → Name × A) (view : Y → A) (name 
 all_rows {X} {Y} {A} seen view name ys own before rows owner owner' n le h e is =
     subst (λ (m : Name). SayAlike (rows_by seen rows) (before ++ own_rows name m own)) e
     (subst (λ (zs : List A). SayAlike (rows_by seen rows) (before ++ own_rows name owner zs)) (ap (map view) (take_all n ys le) ∙ is) h)
-
-pub map_same : {A : Type 0} (xs : List A) → map (λ x. x) xs ≡ xs
-map_same [] = refl
-map_same (x ∷ xs) = ap (λ ys. x ∷ ys) (map_same xs)
 
 -- ---- one class more
 

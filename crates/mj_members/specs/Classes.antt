@@ -4,13 +4,13 @@ use Rattle.mj_tree.specs.Trees.{Name, Method}
 use Rattle.mj_tree.specs.declared.tree.Field.{Field}
 use Rattle.mj_tree.specs.Views.{main_view, class_view, method_view}
 use Rattle.mj_members.specs.Declarations.{ClassDecl, main_decl, class_decl}
-use Rattle.mj_members.specs.declared.class.Tree.{Tree}
-use Rattle.mj_members.specs.declared.class.Tree.TheVariants.{Main, Plain}
+use Rattle.mj_members.specs.declared.class.AnyClassTree.{AnyClassTree}
+use Rattle.mj_members.specs.declared.class.AnyClassTree.TheVariants.{Main, Plain}
 use Rattle.mj_members.specs.declared.class.ClassRef.{ClassRef}
 use Rattle.mj_members.specs.declared.member.FieldMember.{FieldMember}
 use Rattle.mj_members.specs.declared.member.MethodMember.{MethodMember}
 
-abbrev pub tree_view : ℕ → ℕ → Tree → ClassDecl
+abbrev pub tree_view : ℕ → ℕ → AnyClassTree → ClassDecl
 tree_view file number (Main m) = record (main_decl file (main_view m.now)) { number = number }
 tree_view file number (Plain c) = class_decl file number (class_view c.now)
 

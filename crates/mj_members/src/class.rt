@@ -9,7 +9,7 @@ use mj_tree::{ClassTree, Field, MainTree, MethodTree};
 
 /// The tree of a main class or of another class.
 #[derive(Clone, Copy)]
-pub enum Tree<'a> {
+pub enum AnyClassTree<'a> {
     Main(&'a MainTree),
     Plain(&'a ClassTree),
 }
@@ -21,7 +21,7 @@ pub struct ClassRef<'a> {
     pub file: usize,
     /// Its number in the file, counted from 0, the main class first.
     pub number: usize,
-    pub tree: Tree<'a>,
+    pub tree: AnyClassTree<'a>,
 }
 
 impl<'a> ClassRef<'a> {
@@ -30,8 +30,8 @@ impl<'a> ClassRef<'a> {
         ensures { result.now ≡ (class_ref_view self.now).name }
     {
         match self.tree {
-            Tree::Main(main) => &main.name,
-            Tree::Plain(class) => &class.name,
+            AnyClassTree::Main(main) => &main.name,
+            AnyClassTree::Plain(class) => &class.name,
         }
     }
 
@@ -40,8 +40,8 @@ impl<'a> ClassRef<'a> {
         ensures { option_copied result ≡ (class_ref_view self.now).superclass }
     {
         match self.tree {
-            Tree::Main(_) => None,
-            Tree::Plain(class) => class.superclass.as_ref(),
+            AnyClassTree::Main(_) => None,
+            AnyClassTree::Plain(class) => class.superclass.as_ref(),
         }
     }
 
@@ -50,8 +50,8 @@ impl<'a> ClassRef<'a> {
         ensures { result.now ≡ (class_ref_view self.now).fields }
     {
         match self.tree {
-            Tree::Main(_) => &[],
-            Tree::Plain(class) => class.fields.as_slice(),
+            AnyClassTree::Main(_) => &[],
+            AnyClassTree::Plain(class) => class.fields.as_slice(),
         }
     }
 
@@ -60,8 +60,8 @@ impl<'a> ClassRef<'a> {
         ensures { map method_view result.now ≡ (class_ref_view self.now).methods }
     {
         match self.tree {
-            Tree::Main(_) => &[],
-            Tree::Plain(class) => class.methods.as_slice(),
+            AnyClassTree::Main(_) => &[],
+            AnyClassTree::Plain(class) => class.methods.as_slice(),
         }
     }
 

@@ -4,5 +4,5 @@
 mod class;
 mod member;
 
-pub use class::{ClassRef, Tree};
-pub use member::{FieldMember, MethodMember, field_table, method_table};
+pub use class::{AnyClassTree, ClassRef};
+pub use member::{FieldMember, MethodMember, field_table, in_order, method_table};

@@ -102,7 +102,7 @@ fn add_methods<'a>(
 }
 
 /// The values of a map, in the order of the names.
-fn in_order<T: Copy>(alloc: Global, rows: &BTreeMap<&Name, T>) -> Result<Vec<T>, AllocError>
+pub fn in_order<T: Copy>(alloc: Global, rows: &BTreeMap<&Name, T>) -> Result<Vec<T>, AllocError>
     ensures values { IfOk result (λ v. v.items ≡ values rows.now) }
     ensures ordered { IsOrdered (λ x y. slice_cmp nat_cmp x.now y.now) rows.now }
 {

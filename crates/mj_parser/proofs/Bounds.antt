@@ -12,7 +12,7 @@ use Rattle.mj_tree.specs.Trees.{Expression, Expressions, Binary, Index, Length, 
 use Rattle.mj_expressions.specs.Expressions.{terminal_of, terminal_of_bool, IsExp, AreArguments, AreMore}
 use Rattle.mj_parser.specs.Statements.{IsStmt, AreStmts}
 use Rattle.mj_parser.specs.Rows.{InRow}
-use Rattle.mj_parser.specs.Declarations.{type_size, IsVariable, variable_size, IsMoreFormal, more_formal_size, AreFormals, IsLocal, local_size, method_size, formals_place, locals_place, body_place, return_place, IsMethod, IsMethodAt, class_size, IsClass, IsMainPart, Derives}
+use Rattle.mj_parser.specs.Declarations.{type_size, IsVariableAt, variable_size, IsMoreFormal, more_formal_size, AreFormals, IsLocalAt, local_size, method_size, formals_place, locals_place, body_place, return_place, IsMethod, IsMethodAt, class_size, IsClass, IsMainPart, Derives}
 use Rattle.mj_parser.specs.MarkBounds.{ExpMarksBelow, ExpsMarksBelow, StmtMarksBelow, StmtsMarksBelow, VariableBelow, MethodMarksBelow, ClassMarksBelow, MainMarksBelow, FileMarksBelow}
 use Rattle.mj_expressions.proofs.Marks.{name_within, says_name}
 use Rattle.mj_parser.proofs.StatementAgain.{print_name}
@@ -22,7 +22,7 @@ within_value : (ts : List Token) (j v : ℕ) (k : Option Token) → slice_get ts
 within_value ts j v None e h = absurd cc
 within_value ts j v (Some k) e h = slice_get_within ts j k e
 
-value_within : (ts : List Token) (j v : ℕ) → value_at ts j ≡ Some v → j < length ts
+pub value_within : (ts : List Token) (j v : ℕ) → value_at ts j ≡ Some v → j < length ts
 unfolding value_at
 value_within ts j v h = within_value ts j v (slice_get ts j) refl h
 
@@ -66,10 +66,10 @@ module _ (ts : List Token) (n : ℕ) (le : length ts ≤ n) where
     stmts_below i done h = tt
     stmts_below i (next s ss) h = (stmt_below i s h.0, stmts_below _ ss h.1)
 
-  variable_below : (i : ℕ) (v : Variable) → IsVariable ts i v → VariableBelow n v
+  variable_below : (i : ℕ) (v : Variable) → IsVariableAt ts i v → VariableBelow n v
   variable_below i v h = let w = name_within ts (i + type_size v.ty) v.name h.2 in let at = h.0 in omega arith
 
-  locals_below : (i : ℕ) (vs : List Variable) → InRow (IsLocal ts) local_size i vs → All (VariableBelow n) vs
+  locals_below : (i : ℕ) (vs : List Variable) → InRow (IsLocalAt ts) local_size i vs → All (VariableBelow n) vs
   locals_below i [] h = All-nil (VariableBelow n)
   locals_below i (v ∷ vs) h = let here = h.0 in All-cons (VariableBelow n) v vs (variable_below i v here.0) (locals_below (i + local_size v) vs h.1)
 

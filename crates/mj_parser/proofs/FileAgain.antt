@@ -1,10 +1,10 @@
 -- What is a declaration or a file by the grammar is read as that.
 use Rattle.std.proofs.Common.{◌≡◌, ℕ, zero, suc, ◌+◌, ◌≤◌, Bool, true, false, not, ◌&&◌, List, [], ◌∷◌, length, drop, Option, Some, None, refl, sym, ap, ◌∙◌, subst, arith, zero-add}
 use Rattle.std.specs.Prelude.{slice_get, codes}
-use Rattle.std.proofs.lemmas.Bool.{lt-ltb, le-ltb}
+use Rattle.std.proofs.lemmas.Bool.{lt-ltb, le-ltb, and_parts, false_from_ne_true}
 use Rattle.mj_lexer.specs.declared.token.Token.{Token}
-use Rattle.mj_lexer.specs.declared.token.Kind.{Kind}
-use Rattle.mj_lexer.specs.declared.token.Kind.TheVariants as kinds
+use Rattle.mj_lexer.specs.declared.token.TokenKind.{TokenKind}
+use Rattle.mj_lexer.specs.declared.token.TokenKind.TheVariants as kinds
 use Rattle.mj_lexer.specs.declared.token.Terminal.{Terminal}
 use Rattle.mj_lexer.specs.declared.token.Terminal.TheVariants as terminals
 use Rattle.mj_tree.specs.declared.tree.Ty.{Ty}
@@ -16,11 +16,10 @@ use Rattle.mj_tree.specs.Trees.{Name, Statement, Statements, Block, If, While, P
 use Rattle.mj_expressions.specs.Expressions.{size}
 use Rattle.mj_parser.specs.Statements.{stmt_size, stmts_size, stmt_height, IsStmt, AreStmts}
 use Rattle.mj_parser.specs.Rows.{row_size, row_height, InRow}
-use Rattle.mj_parser.specs.Declarations.{type_size, IsType, IsVariable, variable_size, IsMoreFormal, more_formal_size, formals_size, AreFormals, IsLocal, local_size, formals_place, locals_place, body_place, return_place, method_size, method_height, IsMethod, main_head, main_parameter, field_size, IsField, IsMethodAt, superclass_size, IsSuperclass, head_size, class_size, IsClass, class_height, IsMain, main_size, IsMainPart, main_part_size, main_part_height, Derives}
+use Rattle.mj_parser.specs.Declarations.{type_size, IsType, IsVariableAt, variable_size, IsMoreFormal, more_formal_size, formals_size, AreFormals, IsLocalAt, local_size, formals_place, locals_place, body_place, return_place, method_size, method_height, IsMethod, main_head, main_parameter, field_size, IsField, IsMethodAt, superclass_size, IsSuperclass, head_size, class_size, IsClass, class_height, IsMain, main_size, IsMainPart, main_part_size, main_part_height, Derives}
 use Rattle.mj_expressions.specs.Steps.{behind_comma, at_comma, listed_at}
 use Rattle.mj_parser.specs.StatementReading.{stmt_at}
 use Rattle.mj_parser.specs.FileReading.{type_at, variable_at, local_at, field_at, begins_type, begins_local, signature_at, not_return, method_of, method_at, method_from, superclass_at, at_public, class_at, begins_main, main_method_at, main_from, main_at, main_part_at, before_end, tree_of}
-use Rattle.mj_expressions.proofs.Binds.{and_both}
 use Rattle.mj_parser.proofs.Lists.{list_stmts}
 use Rattle.mj_expressions.proofs.Marks.{has_other, has_named, has_within}
 use Rattle.mj_parser.proofs.Rows.{row_again}
@@ -36,11 +35,11 @@ get_drop ts zero k = ap (slice_get ts) (sym (zero-add k))
 get_drop [] (suc i) k = refl
 get_drop (t ∷ ts) (suc i) k = let e : suc (i + k) ≡ suc i + k = omega arith in get_drop ts i k ∙ ap (slice_get (t ∷ ts)) e
 
-has_drop : (ts : List Token) (i k : ℕ) (t : Terminal) → has (drop i ts) k t ≡ has ts (i + k) t
+pub has_drop : (ts : List Token) (i k : ℕ) (t : Terminal) → has (drop i ts) k t ≡ has ts (i + k) t
 unfolding has
 has_drop ts i k t = ap (λ (o : Option Token). is_terminal t (token_kind o)) (get_drop ts i k)
 
-nameless_kind : (t : Terminal) (k : Option Kind) → is_terminal t k ≡ true → name_of k ≡ None
+nameless_kind : (t : Terminal) (k : Option TokenKind) → is_terminal t k ≡ true → name_of k ≡ None
 nameless_kind t None h = refl
 nameless_kind t (Some (kinds.Identifier name)) h = absurd cc
 nameless_kind t (Some (kinds.Literal value)) h = refl
@@ -74,14 +73,14 @@ no_type ts n a b i types.Boolean h = has_other ts i terminals.Boolean n (has_is 
 no_type ts n a b i types.IntArray h = has_other ts i terminals.Int n (has_is _ _ _ h.0) a
 no_type ts n a b i (types.Class class) h = has_named ts i n class h
 
-variable_again : (ts : List Token) (i j : ℕ) (v : Variable) → IsVariable ts i v → j ≡ i + variable_size v → variable_at ts i ≡ Some (v, j)
+variable_again : (ts : List Token) (i j : ℕ) (v : Variable) → IsVariableAt ts i v → j ≡ i + variable_size v → variable_at ts i ≡ Some (v, j)
 unfolding variable_at
 variable_again ts i j v h at =
     let j-is : j ≡ i + type_size v.ty + 1 = omega arith in
     let make : ℕ → Option (Variable × ℕ) = λ m. Some (record { name = v.name; ty = v.ty; mark = m }, i + type_size v.ty + 1) in
     rw (variable_at, j-is, type_again ts i v.ty v.name h.1 h.2, h.2) (ap make (sym h.0))
 
-local_again : (ts : List Token) (i j : ℕ) (v : Variable) → IsLocal ts i v → j ≡ i + local_size v → local_at ts i ≡ Some (v, j)
+local_again : (ts : List Token) (i j : ℕ) (v : Variable) → IsLocalAt ts i v → j ≡ i + local_size v → local_at ts i ≡ Some (v, j)
 unfolding local_at
 local_again ts i j v h at =
     let j-is : j ≡ i + variable_size v + 1 = omega arith in
@@ -150,7 +149,7 @@ method_again : (ts : List Token) (m : Method) → IsMethod ts m → method_heigh
 unfolding method_at method_of
 method_again ts m h low =
     let w = has_within ts (return_place m) terminals.Return (has_is _ _ _ h.return_word) in
-    let ls = row_again (IsLocal ts) local_size flat 0 (local_at ts) (begins_local ts) (length ts) (λ k x g lw. local_again ts k (k + local_size x) x g refl) (λ k x g. local_begins ts k x.ty x.name g.0.1 g.0.2) (λ x. omega arith) m.locals (suc (length ts)) (locals_place m) (body_place m) h.locals (flat_row m.locals)
+    let ls = row_again (IsLocalAt ts) local_size flat 0 (local_at ts) (begins_local ts) (length ts) (λ k x g lw. local_again ts k (k + local_size x) x g refl) (λ k x g. local_begins ts k x.ty x.name g.0.1 g.0.2) (λ x. omega arith) m.locals (suc (length ts)) (locals_place m) (body_place m) h.locals (flat_row m.locals)
     refl (no_local_behind ts (body_place m) m.body h.body (has_is _ _ _ h.return_word)) (omega arith) (omega arith) in
     let bs = stmts_again ts 500 (stmt_at 500 ts) (λ i j s. stmt_again ts 500 i j s) (not_return ts) (λ i s g. ap not (no_statement ts terminals.Return refl refl refl s i g)) m.body (suc (length ts)) (body_place m) (return_place m) h.body (omega arith) refl (ap not (has_is _ _ _ h.return_word)) (omega arith) (omega arith) in
     let v = exp_before ts 500 terminals.Semicolon closer_semicolon (return_place m + 1) (return_place m + 1 + size m.returned) m.returned h.returned (omega arith) refl (has_is _ _ _ h.semicolon) in
@@ -161,7 +160,7 @@ method_from_again : (ts : List Token) (i : ℕ) (m : Method) → IsMethodAt ts i
 unfolding method_from
 method_from_again ts i m h low = rw (method_from, method_again (drop i ts) m h low) refl
 
-method_begins : (ts : List Token) (i : ℕ) (m : Method) → IsMethodAt ts i m → has ts i terminals.Public ≡ true
+pub method_begins : (ts : List Token) (i : ℕ) (m : Method) → IsMethodAt ts i m → has ts i terminals.Public ≡ true
 method_begins ts i m h = let same : i + 0 ≡ i = omega arith in subst (λ (k : ℕ). has ts k terminals.Public ≡ true) same (sym (has_drop ts i 0 terminals.Public) ∙ (has_is _ _ _ h.public_word))
 
 -- ---- classes
@@ -231,18 +230,14 @@ unlike_main ts None [] (m ∷ ms) hs hf hm e a b c =
     let s = has_drop ts 3 1 terminals.Static in
     absurd cc
 
-not_true : (b : Bool) → (b ≡ true → ⊥) → b ≡ false
-not_true true h = absurd (h refl)
-not_true false h = refl
-
 no_main : (ts : List Token) (cs : List Class) → InRow (IsClass ts) class_size 0 cs → row_size class_size cs ≡ length ts → begins_main ts ≡ false
-no_main ts [] h whole = not_true (begins_main ts) (λ e.
-    let both = and_both (has ts 2 terminals.LeftBrace && has ts 3 terminals.Public) (has ts 4 terminals.Static) e in
+no_main ts [] h whole = false_from_ne_true (begins_main ts) (λ e.
+    let both = and_parts (has ts 2 terminals.LeftBrace && has ts 3 terminals.Public) (has ts 4 terminals.Static) e in
     let w = has_within ts 4 terminals.Static both.1 in
     absurd (omega arith))
-no_main ts (c ∷ cs) h whole = not_true (begins_main ts) (λ e.
-    let both = and_both (has ts 2 terminals.LeftBrace && has ts 3 terminals.Public) (has ts 4 terminals.Static) e in
-    let first = and_both (has ts 2 terminals.LeftBrace) (has ts 3 terminals.Public) both.0 in
+no_main ts (c ∷ cs) h whole = false_from_ne_true (begins_main ts) (λ e.
+    let both = and_parts (has ts 2 terminals.LeftBrace && has ts 3 terminals.Public) (has ts 4 terminals.Static) e in
+    let first = and_parts (has ts 2 terminals.LeftBrace) (has ts 3 terminals.Public) both.0 in
     let k = h.0 in
     unlike_main ts c.superclass c.fields c.methods k.superclass k.fields k.methods (has_is _ _ _ k.end_brace) first.0 first.1 both.1)
 

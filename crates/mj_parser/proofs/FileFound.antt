@@ -1,6 +1,6 @@
 -- What is read as a declaration or a file is that by the grammar.
 use Rattle.std.proofs.Common.{◌≡◌, ℕ, suc, ◌+◌, ◌≤◌, true, ◌&&◌, List, [], ◌∷◌, length, drop, Option, Some, None, refl, ap, subst, arith, inl, inr}
-use Rattle.std.proofs.lemmas.Bool.{ltb-false}
+use Rattle.std.proofs.lemmas.Bool.{ltb-false, and_parts, not-false}
 use Rattle.std.proofs.lemmas.List.{length-drop}
 use Rattle.mj_lexer.specs.declared.token.Token.{Token}
 use Rattle.mj_lexer.specs.declared.token.Terminal.TheVariants as terminals
@@ -13,15 +13,15 @@ use Rattle.mj_tree.specs.Views.{statements_of}
 use Rattle.mj_expressions.specs.Expressions.{size, IsExp}
 use Rattle.mj_parser.specs.Statements.{stmt_size, stmts_size, stmt_height, IsStmt, AreStmts}
 use Rattle.mj_parser.specs.Rows.{row_size, InRow}
-use Rattle.mj_parser.specs.Declarations.{type_size, IsType, IsVariable, variable_size, IsMoreFormal, more_formal_size, formals_size, AreFormals, IsLocal, local_size, method_size, method_height, IsMethod, main_head, main_parameter, field_size, IsField, IsMethodAt, superclass_size, IsSuperclass, class_size, IsClass, class_height, IsMain, main_size, IsMainPart, main_part_size, main_part_height, Derives}
+use Rattle.mj_parser.specs.Declarations.{type_size, IsType, IsVariableAt, variable_size, IsMoreFormal, more_formal_size, formals_size, AreFormals, IsLocalAt, local_size, method_size, method_height, IsMethod, main_head, main_parameter, field_size, IsField, IsMethodAt, superclass_size, IsSuperclass, class_size, IsClass, class_height, IsMain, main_size, IsMainPart, main_part_size, main_part_height, Derives}
 use Rattle.mj_expressions.specs.Steps.{items_from, behind_comma, at_comma, listed_at}
 use Rattle.mj_expressions.specs.ExpressionReading.{exp_at}
 use Rattle.mj_parser.specs.StatementReading.{stmt_at}
-use Rattle.mj_parser.specs.FileReading.{type_at, variable_at, local_at, field_at, begins_type, begins_local, Signature, signature_at, not_return, method_of, method_at, method_from, superclass_at, at_public, class_at, begins_main, main_method_at, main_from, main_at, main_part_at, before_end, tree_of}
-use Rattle.mj_expressions.proofs.Binds.{bind_some, when_some, if_some, some_is, and_both}
+use Rattle.mj_parser.specs.FileReading.{type_at, variable_at, local_at, field_at, begins_type, begins_local, MethodHeading, signature_at, not_return, method_of, method_at, method_from, superclass_at, at_public, class_at, begins_main, main_method_at, main_from, main_at, main_part_at, before_end, tree_of}
+use Rattle.mj_expressions.proofs.Binds.{bind_some, when_some, if_some, some_is}
 use Rattle.mj_parser.proofs.Rows.{PartSound, row_found}
 use Rattle.mj_expressions.proofs.ExpressionFound.{exp_found}
-use Rattle.mj_parser.proofs.StatementFound.{not_is_false, stmts_found, stmt_found}
+use Rattle.mj_parser.proofs.StatementFound.{stmts_found, stmt_found}
 use Rattle.mj_expressions.proofs.Stands.{stands, when_stands, if_stands, both_stand, stands_within}
 
 abbrev flat : {A : Type 0} → A → ℕ
@@ -51,7 +51,7 @@ type_found ts i x e =
     ]
 
 abbrev SoundVariable : List Token → ℕ → Variable × ℕ → Type 0
-SoundVariable ts i x = PartSound (IsVariable ts) variable_size flat 0 i x
+SoundVariable ts i x = PartSound (IsVariableAt ts) variable_size flat 0 i x
 
 variable_found : (ts : List Token) (i : ℕ) (x : Variable × ℕ) → variable_at ts i ≡ Some x → SoundVariable ts i x
 unfolding variable_at
@@ -63,7 +63,7 @@ variable_found ts i x e =
     subst (SoundVariable ts i) (some_is _ x b.2) (record { is = (refl, t.is, subst (λ (k : ℕ). name_at ts k ≡ Some b.0) t.at b.1); at = omega arith; low = omega arith })
 
 abbrev SoundLocal : List Token → ℕ → Variable × ℕ → Type 0
-SoundLocal ts i x = PartSound (IsLocal ts) local_size flat 0 i x
+SoundLocal ts i x = PartSound (IsLocalAt ts) local_size flat 0 i x
 
 local_found : (ts : List Token) (i : ℕ) (x : Variable × ℕ) → local_at ts i ≡ Some x → SoundLocal ts i x
 unfolding local_at
@@ -120,7 +120,7 @@ formals_found ts i x e =
 
 -- ---- methods
 
-record SoundSignature (ts : List Token) (x : Signature × ℕ) : Type 0 where
+record SoundSignature (ts : List Token) (x : MethodHeading × ℕ) : Type 0 where
   public_word : Stands ts 0 terminals.Public
   returns : IsType ts 1 x.0.returns
   name : name_at ts (1 + type_size x.0.returns) ≡ Some x.0.name
@@ -130,7 +130,7 @@ record SoundSignature (ts : List Token) (x : Signature × ℕ) : Type 0 where
   brace : Stands ts (1 + type_size x.0.returns + 2 + formals_size x.0.formals + 1) terminals.LeftBrace
   at : x.1 ≡ 1 + type_size x.0.returns + 2 + formals_size x.0.formals + 2
 
-signature_found : (ts : List Token) (x : Signature × ℕ) → signature_at ts ≡ Some x → SoundSignature ts x
+signature_found : (ts : List Token) (x : MethodHeading × ℕ) → signature_at ts ≡ Some x → SoundSignature ts x
 unfolding signature_at
 signature_found ts x e =
     let a = when_stands ts 0 terminals.Public _ x e in
@@ -170,7 +170,7 @@ method_found ts x e =
     let c = when_some (has ts r.0.1 terminals.Semicolon && has ts (r.0.1 + 1) terminals.RightBrace) _ x r.2 in
     let both = both_stand ts r.0.1 terminals.Semicolon (r.0.1 + 1) terminals.RightBrace c.0 in
     let s = signature_found ts a.0 a.1 in
-    let ls = row_found (IsLocal ts) local_size flat 0 (local_at ts) (begins_local ts) (λ i y g. local_found ts i y) (suc (length ts)) a.0.1 l.0 l.1 in
+    let ls = row_found (IsLocalAt ts) local_size flat 0 (local_at ts) (begins_local ts) (λ i y g. local_found ts i y) (suc (length ts)) a.0.1 l.0 l.1 in
     let bs = stmts_found ts 500 (stmt_at 500 ts) (stmt_found ts 500) (not_return ts) (suc (length ts)) l.0.1 b.0 b.1 in
     let v = exp_found ts 500 5 (b.0.1 + 1) r.0 r.1 in
     let s-at = s.at in
@@ -191,9 +191,9 @@ method_found ts x e =
         formals = s.formals;
         closing = s.closing;
         brace = s.brace;
-        locals = subst (λ (k : ℕ). InRow (IsLocal ts) local_size k l.0.0) s.at ls.are;
+        locals = subst (λ (k : ℕ). InRow (IsLocalAt ts) local_size k l.0.0) s.at ls.are;
         body = subst (λ (k : ℕ). AreStmts ts k (statements_of b.0.0)) body-at bs.are;
-        return_word = subst (λ (k : ℕ). Stands ts k terminals.Return) return-at (stands ts b.0.1 terminals.Return (not_is_false (has ts b.0.1 terminals.Return) bs.ends));
+        return_word = subst (λ (k : ℕ). Stands ts k terminals.Return) return-at (stands ts b.0.1 terminals.Return (not-false (has ts b.0.1 terminals.Return) bs.ends));
         return_mark = return-at;
         returned = subst (λ (k : ℕ). IsExp ts 5 (k + 1) r.0.0) return-at v.is;
         semicolon = subst (λ (k : ℕ). Stands ts k terminals.Semicolon) semicolon-at both.0;
@@ -275,7 +275,7 @@ main_method_found : (ts : List Token) (x : Statement × ℕ) → main_method_at 
 unfolding main_method_at
 main_method_found ts x e =
     let a = when_some (main_head ts && main_parameter ts) _ x e in
-    let o = and_both (main_head ts) (main_parameter ts) a.0 in
+    let o = and_parts (main_head ts) (main_parameter ts) a.0 in
     let s = bind_some (stmt_at 500 ts 11) _ x a.1 in
     let c = when_some (has ts s.0.1 terminals.RightBrace && has ts (s.0.1 + 1) terminals.RightBrace) _ x s.2 in
     let both = both_stand ts s.0.1 terminals.RightBrace (s.0.1 + 1) terminals.RightBrace c.0 in

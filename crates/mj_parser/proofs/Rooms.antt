@@ -8,12 +8,12 @@ use Rattle.mj_expressions.specs.declared.fault.ParseFault.TheVariants.{NotAFile,
 use Rattle.mj_expressions.specs.Tokens.{has, name_at}
 use Rattle.mj_tree.specs.Trees.{Name, Statement}
 use Rattle.mj_parser.specs.Statements.{opens_print}
-use Rattle.mj_expressions.specs.Steps.{◌>>=◌, when, PartParser, Fails}
+use Rattle.mj_expressions.specs.Steps.{◌>>=◌, when, PartParser, FailsToParse}
 use Rattle.mj_expressions.specs.ExpressionReading.{exp_at}
 use Rattle.mj_parser.specs.StatementReading.{condition_at, if_at, while_at, print_at, assign_at, store_at, named_at, stmt_of, stmt_at}
 
 -- a refusal that isn't about memory, where nothing is found
-pub fails : {A : Type 0} (e : ParseFault) (x : Option A) → e ≢ OutOfMemory → x ≡ None → Fails e x
+pub fails : {A : Type 0} (e : ParseFault) (x : Option A) → e ≢ OutOfMemory → x ≡ None → FailsToParse e x
 fails OutOfMemory x ne n = tt
 fails (NotAFile k) x ne n = n
 fails TooDeep x ne n = n

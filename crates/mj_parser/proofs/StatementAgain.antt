@@ -25,7 +25,7 @@ stmt_some (Print m v) = omega arith
 stmt_some (Assign m n k v) = omega arith
 stmt_some (Store m n k x v) = omega arith
 
-stmt_height_some : (s : Statement) → 0 < stmt_height s
+pub stmt_height_some : (s : Statement) → 0 < stmt_height s
 stmt_height_some (Block m body) = omega arith
 stmt_height_some (If m c a b) = omega arith
 stmt_height_some (While m c a) = omega arith

@@ -1,5 +1,6 @@
 -- What is read as a statement is that statement by the grammar.
-use Rattle.std.proofs.Common.{◌≡◌, ℕ, zero, suc, ◌+◌, ◌≤◌, Bool, true, false, not, ◌&&◌, List, length, Some, refl, subst, arith, inl, inr}
+use Rattle.std.proofs.Common.{◌≡◌, ℕ, zero, suc, ◌+◌, ◌≤◌, Bool, false, ◌&&◌, List, length, Some, refl, subst, arith, inl, inr}
+use Rattle.std.proofs.lemmas.Bool.{not-false}
 use Rattle.mj_lexer.specs.declared.token.Token.{Token}
 use Rattle.mj_lexer.specs.declared.token.Terminal.TheVariants as terminals
 use Rattle.mj_expressions.specs.Tokens.{Stands, has, name_at}
@@ -13,10 +14,6 @@ use Rattle.mj_parser.specs.StatementReading.{not_brace, block_at, condition_at, 
 use Rattle.mj_expressions.proofs.Binds.{bind_some, when_some, if_some, some_is}
 use Rattle.mj_expressions.proofs.ExpressionFound.{exp_found}
 use Rattle.mj_expressions.proofs.Stands.{stands, when_stands, if_stands, both_stand}
-
-pub not_is_false : (b : Bool) → not b ≡ false → b ≡ true
-not_is_false true e = refl
-not_is_false false e = absurd cc
 
 -- a statement that was read up to a place
 pub record SoundStmt (ts : List Token) (i room : ℕ) (x : Statement × ℕ) : Type 0 where
@@ -89,7 +86,7 @@ module _ (ts : List Token) (room : ℕ) (part : PartParser Statement) (sound : (
       let at = t.at in
       let low = t.low in
       subst (SoundStmt ts i (suc room)) (some_is _ x b.2) (record {
-        is = (refl, h, t.are, subst (λ (k : ℕ). Stands ts k terminals.RightBrace) t.at (stands ts b.0.1 terminals.RightBrace (not_is_false (has ts b.0.1 terminals.RightBrace) t.ends)));
+        is = (refl, h, t.are, subst (λ (k : ℕ). Stands ts k terminals.RightBrace) t.at (stands ts b.0.1 terminals.RightBrace (not-false (has ts b.0.1 terminals.RightBrace) t.ends)));
         at = omega arith;
         low = omega arith;
       })

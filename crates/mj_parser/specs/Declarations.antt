@@ -31,8 +31,8 @@ IsType ts i types.IntArray =
 IsType ts i (types.Class name) = name_at ts i ≡ Some name
 
 -- a type and a name
-abbrev pub IsVariable : List Token → ℕ → Variable → Type 0
-IsVariable ts i v =
+abbrev pub IsVariableAt : List Token → ℕ → Variable → Type 0
+IsVariableAt ts i v =
     (v.mark ≡ i) × IsType ts i v.ty × (name_at ts (i + type_size v.ty) ≡ Some v.name)
 
 abbrev pub variable_size : Variable → ℕ
@@ -40,7 +40,7 @@ variable_size v = type_size v.ty + 1
 
 -- formals, with a comma between each two
 abbrev pub IsMoreFormal : List Token → ℕ → Variable → Type 0
-IsMoreFormal ts i v = Stands ts i terminals.Comma × IsVariable ts (i + 1) v
+IsMoreFormal ts i v = Stands ts i terminals.Comma × IsVariableAt ts (i + 1) v
 
 abbrev pub more_formal_size : Variable → ℕ
 more_formal_size v = 1 + variable_size v
@@ -52,11 +52,11 @@ formals_size (v ∷ vs) = variable_size v + row_size more_formal_size vs
 abbrev pub AreFormals : List Token → ℕ → List Variable → Type 0
 AreFormals ts i [] = Unit {0}
 AreFormals ts i (v ∷ vs) =
-    IsVariable ts i v × InRow (IsMoreFormal ts) more_formal_size (i + variable_size v) vs
+    IsVariableAt ts i v × InRow (IsMoreFormal ts) more_formal_size (i + variable_size v) vs
 
 -- a local
-abbrev pub IsLocal : List Token → ℕ → Variable → Type 0
-IsLocal ts i v = IsVariable ts i v × Stands ts (i + variable_size v) terminals.Semicolon
+abbrev pub IsLocalAt : List Token → ℕ → Variable → Type 0
+IsLocalAt ts i v = IsVariableAt ts i v × Stands ts (i + variable_size v) terminals.Semicolon
 
 abbrev pub local_size : Variable → ℕ
 local_size v = variable_size v + 1
@@ -91,7 +91,7 @@ pub record IsMethod (ts : List Token) (m : Method) : Type 0 where
   pub formals : AreFormals ts (formals_place m) m.formals
   pub closing : Stands ts (formals_place m + formals_size m.formals) terminals.RightParenthesis
   pub brace : Stands ts (formals_place m + formals_size m.formals + 1) terminals.LeftBrace
-  pub locals : InRow (IsLocal ts) local_size (locals_place m) m.locals
+  pub locals : InRow (IsLocalAt ts) local_size (locals_place m) m.locals
   pub body : AreStmts ts (body_place m) m.body
   pub return_word : Stands ts (return_place m) terminals.Return
   pub return_mark : m.return_mark ≡ return_place m

@@ -2,7 +2,7 @@
 use Rattle.std.specs.Prelude.{ℕ, suc, ◌+◌, Bool, ◌&&◌, ◌||◌, not, nat_lt, is_some, List, length, drop, Option, Some, None, if◌then◌else◌}
 use Rattle.mj_lexer.specs.declared.token.Token.{Token}
 use Rattle.mj_lexer.specs.declared.token.Terminal.TheVariants as terminals
-use Rattle.mj_parser.specs.declared.declarations.Signature as parts
+use Rattle.mj_parser.specs.declared.declarations.MethodHeading as parts
 use Rattle.mj_tree.specs.declared.tree.Ty.{Ty}
 use Rattle.mj_tree.specs.declared.tree.Ty.TheVariants as types
 use Rattle.mj_tree.specs.declared.tree.Field.{Field}
@@ -57,22 +57,22 @@ begins_local ts i =
 -- ---- methods, whose tokens are numbered from `public`
 
 -- what stands before the locals
-pub record Signature : Type 0 where
+pub record MethodHeading : Type 0 where
   pub name : Name
   pub returns : Ty
   pub formals : List Variable
 
-abbrev pub signature_view : parts.Signature → Signature
+abbrev pub signature_view : parts.MethodHeading → MethodHeading
 signature_view s = record { name = s.name; returns = s.returns; formals = s.formals.items }
 
 -- the formals and the brace that opens the body, behind the type and the name
-abbrev pub signature_of : List Token → Name → Ty → ℕ → Option (Signature × ℕ)
+abbrev pub signature_of : List Token → Name → Ty → ℕ → Option (MethodHeading × ℕ)
 signature_of ts name returns i =
     listed_at (variable_at ts) ts i
     >>= λ fs. when (has ts fs.1 terminals.LeftBrace)
     (Some (record { name = name; returns = returns; formals = fs.0 }, fs.1 + 1))
 
-unfoldable pub signature_at : List Token → Option (Signature × ℕ)
+unfoldable pub signature_at : List Token → Option (MethodHeading × ℕ)
 signature_at ts =
     when (has ts 0 terminals.Public)
     (type_at ts 1 >>= λ t. name_at ts t.1
@@ -83,7 +83,7 @@ abbrev pub not_return : List Token → ℕ → Bool
 not_return ts i = not (has ts i terminals.Return)
 
 -- `return Exp ; }` behind the statements
-unfoldable pub method_of : List Token → Signature → List Variable → List Statement × ℕ
+unfoldable pub method_of : List Token → MethodHeading → List Variable → List Statement × ℕ
     → Option (Method × ℕ)
 method_of ts s locals body =
     exp_at most_levels ts any_tier (body.1 + 1)

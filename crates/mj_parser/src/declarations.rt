@@ -195,7 +195,7 @@ fn body(alloc: Global, tokens: &[Token], at: usize) -> Result<Part<Vec<Stmt>>, P
 
 /// What stands before the locals of a method.
 #[derive(Drop)]
-pub struct Signature {
+pub struct MethodHeading {
     pub name: Name,
     pub returns: Ty,
     pub formals: Vec<Variable>,
@@ -207,8 +207,8 @@ fn make_signature(
     name: &Name,
     returns: Ty,
     formals: Part<Vec<Variable>>,
-) -> Result<Part<Signature>, ParseFault>
-    ensures exact { Finds {A = reading.Signature × ℕ} (λ x. (signature_view x.tree, x.after)) result
+) -> Result<Part<MethodHeading>, ParseFault>
+    ensures exact { Finds {A = reading.MethodHeading × ℕ} (λ x. (signature_view x.tree, x.after)) result
         (Some (
           record { name = name.now; returns = returns; formals = formals.tree.items },
           formals.after,
@@ -216,7 +216,7 @@ fn make_signature(
     ensures place { IfOk result (λ x. x.after ≡ formals.after) }
 {
     Ok(Part {
-        tree: Signature {
+        tree: MethodHeading {
             name: name.copy(alloc)?,
             returns,
             formals: formals.tree,
@@ -232,7 +232,7 @@ fn signature_of(
     name: &Name,
     returns: Ty,
     at: usize,
-) -> Result<Part<Signature>, ParseFault>
+) -> Result<Part<MethodHeading>, ParseFault>
     requires { at ≤ length tokens.now }
     ensures exact { Finds (λ x. (signature_view x.tree, x.after)) result
         (signature_of tokens.now name.now returns at) }
@@ -244,7 +244,7 @@ fn signature_of(
 }
 
 #[tactic(auto, unfolding(crate::specs::FileReading::signature_at))]
-fn read_signature(alloc: Global, tokens: &[Token]) -> Result<Part<Signature>, ParseFault>
+fn read_signature(alloc: Global, tokens: &[Token]) -> Result<Part<MethodHeading>, ParseFault>
     ensures exact { Finds (λ x. (signature_view x.tree, x.after)) result (signature_at tokens.now) }
     ensures within { IfOk result (λ x. (0 < x.after) × (x.after ≤ length tokens.now)) }
 {
@@ -260,7 +260,7 @@ fn read_signature(alloc: Global, tokens: &[Token]) -> Result<Part<Signature>, Pa
 fn method_of(
     alloc: Global,
     tokens: &[Token],
-    signature: Signature,
+    signature: MethodHeading,
     locals: Vec<Variable>,
     body: Part<Vec<Stmt>>,
 ) -> Result<Part<MethodTree>, ParseFault>

@@ -1,9 +1,10 @@
 -- The functions compute the judgement.
-use Rattle.std.proofs.Common.{◌≡◌, ℕ, List, [], ◌∷◌, Option, Some, None, refl, sym, ap, ◌∙◌, subst, arith, ◌⊎◌, inl, inr}
+use Rattle.std.proofs.Common.{◌≡◌, ℕ, List, [], ◌∷◌, Option, Some, None, refl, sym, ap, ◌∙◌, subst, ◌⊎◌, inl, inr}
 use Rattle.std.specs.Prelude.{Contains, ◌↔◌}
-use Rattle.std.proofs.lemmas.List.Elements.{Contains-append_left, Contains-append_right, Contains-push, Contains-push_cases, Contains-append_cases, at_from_Contains}
+use Rattle.std.proofs.lemmas.List.Elements.{Contains-append_left, Contains-push, Contains-push_cases}
 use Rattle.mj_tree.specs.declared.tree.Ty.{Ty}
 use Rattle.mj_answer.specs.declared.code.Code.{Code}
+use Rattle.mj_answer.proofs.Alike.{nowhere, Contains-first, Contains-later, Contains-cases}
 use Rattle.mj_phrases.specs.declared.verdict.Verdict.{Verdict}
 use Rattle.mj_phrases.specs.declared.verdict.Verdict.TheVariants.{Is, Fine, Wrong, Silent}
 use Rattle.mj_phrases.specs.declared.verdict.Mistake.{Mistake}
@@ -127,28 +128,12 @@ mutual
 
 -- ---- lists of phrases
 
-pub nowhere : {A : Type 0} (x : A) → Contains [] x → ⊥
-nowhere x h = let a = at_from_Contains [] x h in absurd (omega (arith, a.1))
-
-pub first : {A : Type 0} (x : A) (xs : List A) → Contains (x ∷ xs) x
-first x xs = Contains-append_left (x ∷ []) xs x (Contains-push [] x)
-
-pub later : {A : Type 0} (x : A) (xs : List A) (y : A) → Contains xs y → Contains (x ∷ xs) y
-later x xs y h = Contains-append_right (x ∷ []) xs y h
-
-pub first_or_later : {A : Type 0} (x : A) (xs : List A) (y : A) → Contains (x ∷ xs) y → (x ≡ y) ⊎ Contains xs y
-first_or_later x xs y h =
-    elim (Contains-append_cases (x ∷ []) xs y h) [
-      | inl a ↦ elim (Contains-push_cases [] x y a) [ inl b ↦ absurd (nowhere y b) | inr e ↦ inl e ]
-      | inr b ↦ inr b
-    ]
-
 pub each_listed : (w : World) (ps : List Phrase) (faults : List Mistake) (m : Mistake) → Contains (add_each w faults ps) m → Contains faults m ⊎ FaultInSome w ps m
 each_listed w [] faults m h = inl h
 each_listed w (p ∷ ps) faults m h =
     elim (each_listed w ps (add_faults w faults p) m h) [
-      | inl a ↦ elim (listed w p faults m a) [ inl b ↦ inl b | inr f ↦ inr (p, first p ps, f) ]
-      | inr f ↦ inr (f.0, later p ps f.0 f.1, f.2)
+      | inl a ↦ elim (listed w p faults m a) [ inl b ↦ inl b | inr f ↦ inr (p, Contains-first p ps, f) ]
+      | inr f ↦ inr (f.0, Contains-later p ps f.0 f.1, f.2)
     ]
 
 pub each_kept : (w : World) (ps : List Phrase) (faults : List Mistake) (m : Mistake) → Contains faults m → Contains (add_each w faults ps) m
@@ -158,7 +143,7 @@ each_kept w (p ∷ ps) faults m h = each_kept w ps (add_faults w faults p) m (ke
 pub each_there : (w : World) (ps : List Phrase) (faults : List Mistake) (m : Mistake) (p : Phrase) → Contains ps p → FaultIn w p m → Contains (add_each w faults ps) m
 each_there w [] faults m p h f = absurd (nowhere p h)
 each_there w (q ∷ qs) faults m p h f =
-    elim (first_or_later q qs p h) [
+    elim (Contains-cases q qs p h) [
       | inl e ↦ each_kept w qs (add_faults w faults q) m (there w q faults m (subst (λ p. FaultIn w p m) (sym e) f))
       | inr l ↦ each_there w qs (add_faults w faults q) m p l f
     ]

@@ -1,8 +1,8 @@
 -- Steps of a check, one after the other.
-use Rattle.std.proofs.Common.{◌≡◌, ℕ, zero, suc, ◌+◌, ◌<◌, ◌≤◌, Bool, true, false, List, [], ◌∷◌, length, drop, get_or, drop-cons, add-one, Result, Ok, Err, IfErr, cond, arith, refl, ap, subst, sym, ◌∙◌}
-use Rattle.std.proofs.Math.Seq.{drop-nil}
+use Rattle.std.proofs.Common.{◌≡◌, ℕ, ◌+◌, ◌<◌, ◌≤◌, Bool, true, false, List, ◌∷◌, length, drop, get_or, drop-cons, add-one, Result, Ok, Err, IfErr, cond, arith, refl, ap, subst, sym, ◌∙◌}
 use Rattle.std.proofs.lemmas.Bool.{eq-eqb, ne_eqb}
 use Rattle.std.specs.Prelude.{nat_eq}
+use Rattle.std.proofs.lemmas.List.{drop_all}
 use Rattle.mj_tree.specs.declared.tree.Ty.{Ty}
 use Rattle.mj_answer.specs.declared.code.Code.{Code}
 use Rattle.mj_answer.specs.declared.code.Code.TheVariants.{E312, E313}
@@ -83,17 +83,9 @@ module _ {S : Type 0} (stands : S → Check → Check → Type 0) where
 
 -- ---- a loop over arguments
 
-nil_past : {A : Type 0} (xs : List A) (i : ℕ) → length xs ≤ i → drop i xs ≡ []
-nil_past [] i h = drop-nil i
-nil_past (x ∷ xs) zero h = absurd (omega (arith, h))
-nil_past (x ∷ xs) (suc i) h = nil_past xs i (omega (arith, h))
-
 -- the list from an index on
 pub front_at : {A : Type 0} (xs : List A) (i : ℕ) (x : A) → i < length xs → x ≡ get_or xs i x → drop i xs ≡ x ∷ drop (i + 1) xs
 front_at xs i x h e = drop-cons xs i x h ∙ ap (λ j. get_or xs i x ∷ drop j xs) (sym (add-one i)) ∙ ap (λ y. y ∷ drop (i + 1) xs) (sym e)
-
-pub at_end : {A : Type 0} (xs : List A) (i : ℕ) → length xs ≤ i → drop i xs ≡ []
-at_end xs i h = nil_past xs i h
 
 module _ {S E : Type 0} (stands : S → Check → Check → Type 0) (halts : S → Check → E → Type 0) (ts us : List Ty) (old : S) where
   -- what is left of the arguments from an index on
@@ -134,5 +126,5 @@ module _ {S E : Type 0} (stands : S → Check → Check → Type 0) (halts : S �
   pub left_none : (i : ℕ) (new : S) → Left i new → length ts ≤ i → Proceeds stands (and_then (are_accepted ts us)) old true new
   unfolding are_accepted
   left_none i new l h = record {
-    goes = λ start k w. subst (λ xs. stands new start (and_then (are_accepted xs (drop i us)) k)) (at_end ts i h) (l.comes start k w);
+    goes = λ start k w. subst (λ xs. stands new start (and_then (are_accepted xs (drop i us)) k)) (drop_all i ts h) (l.comes start k w);
   }

@@ -1,7 +1,8 @@
 -- The table is the judgement by cases.
 use Rattle.std.proofs.Common.{◌≡◌, ℕ, suc, nat_le, Bool, true, false, cond, ◌&&◌, List, [], ◌∷◌, length, Option, Some, None, refl, sym, ap, ◌∙◌, subst, arith, inl, inr}
-use Rattle.std.proofs.lemmas.Bool.{leb-true, le-leb, eq-eqb, eqb-true}
+use Rattle.std.proofs.lemmas.Bool.{leb-true, le-leb, eq-eqb, eqb-true, and_parts}
 use Rattle.std.specs.Prelude.{nat_eq}
+use Rattle.std.proofs.lemmas.Option.{same_Some}
 use Rattle.mj_tree.specs.Trees.{Name, Expression, Expressions, Binary, Index, Length, Call, Literal, Boolean, Named, This, NewArray, NewObject, Not, Parenthesized, none, more}
 use Rattle.mj_tree.specs.declared.tree.Operator.{Operator}
 use Rattle.mj_tree.specs.declared.tree.Operator.TheVariants.{And, Less, Plus, Minus, Times}
@@ -25,9 +26,6 @@ use Rattle.mj_phrases.proofs.Names.{same_from, from_same}
 is_inj : (t u : Ty) → Is t ≡ Is u → t ≡ u
 is_inj t u e = cc
 
-some_inj : {A : Type 0} (t u : A) → Some t ≡ Some u → t ≡ u
-some_inj t u e = cc
-
 pub int_is : (t : Ty) → is_int t ≡ true → t ≡ ty.Int
 int_is ty.Int e = refl
 int_is ty.Boolean e = absurd cc
@@ -46,15 +44,11 @@ array_is ty.Boolean e = absurd cc
 array_is ty.IntArray e = refl
 array_is (ty.Class c) e = absurd cc
 
-class_is : (t : Ty) (c : Name) → class_in t ≡ Some c → t ≡ ty.Class c
+pub class_is : (t : Ty) (c : Name) → class_in t ≡ Some c → t ≡ ty.Class c
 class_is ty.Int c e = absurd cc
 class_is ty.Boolean c e = absurd cc
 class_is ty.IntArray c e = absurd cc
-class_is (ty.Class d) c e = ap (λ (x : Name). ty.Class x) (some_inj d c e)
-
-both_true : (a b : Bool) → (a && b) ≡ true → (a ≡ true) × (b ≡ true)
-both_true true b e = (refl, e)
-both_true false b e = absurd cc
+class_is (ty.Class d) c e = ap (λ (x : Name). ty.Class x) (same_Some d c e)
 
 -- ---- demands that hold
 
@@ -133,7 +127,7 @@ module _ (w : World) where
   local_is (v ∷ vs) x t e = by_first (λ e. local_is vs x t e) (is_same v.name x) refl e
     where
       by_first : (local_of vs x ≡ Some t → IsLocal vs x t) → (b : Bool) → is_same v.name x ≡ b → cond b (Some v.ty) (local_of vs x) ≡ Some t → IsLocal (v ∷ vs) x t
-      by_first rest true s e = inl (same_from v.name x s, some_inj v.ty t e)
+      by_first rest true s e = inl (same_from v.name x s, same_Some v.ty t e)
       by_first rest false s e = inr (λ same. let f = from_same v.name x same in absurd cc, rest e)
 
   other_name : (x y : Name) → (x ≡ y → ⊥) → is_same x y ≡ false
@@ -230,11 +224,11 @@ module _ (w : World) where
 
   binary_from : (o : Operator) (a b t : Ty) → conclusion w (binary o a b) ≡ Is t → (a ≡ operand_type o) × (b ≡ operand_type o) × (t ≡ result_type o)
   unfolding binary
-  binary_from And a b t e = let d = demand_holds (is_boolean a && is_boolean b) E301 (is ty.Boolean) (Is t) tt e in let f = both_true (is_boolean a) (is_boolean b) d.0 in (boolean_is a f.0, boolean_is b f.1, sym (is_inj ty.Boolean t d.1))
-  binary_from Less a b t e = let d = demand_holds (is_int a && is_int b) E302 (is ty.Boolean) (Is t) tt e in let f = both_true (is_int a) (is_int b) d.0 in (int_is a f.0, int_is b f.1, sym (is_inj ty.Boolean t d.1))
-  binary_from Plus a b t e = let d = demand_holds (is_int a && is_int b) E304 (is ty.Int) (Is t) tt e in let f = both_true (is_int a) (is_int b) d.0 in (int_is a f.0, int_is b f.1, sym (is_inj ty.Int t d.1))
-  binary_from Minus a b t e = let d = demand_holds (is_int a && is_int b) E304 (is ty.Int) (Is t) tt e in let f = both_true (is_int a) (is_int b) d.0 in (int_is a f.0, int_is b f.1, sym (is_inj ty.Int t d.1))
-  binary_from Times a b t e = let d = demand_holds (is_int a && is_int b) E304 (is ty.Int) (Is t) tt e in let f = both_true (is_int a) (is_int b) d.0 in (int_is a f.0, int_is b f.1, sym (is_inj ty.Int t d.1))
+  binary_from And a b t e = let d = demand_holds (is_boolean a && is_boolean b) E301 (is ty.Boolean) (Is t) tt e in let f = and_parts (is_boolean a) (is_boolean b) d.0 in (boolean_is a f.0, boolean_is b f.1, sym (is_inj ty.Boolean t d.1))
+  binary_from Less a b t e = let d = demand_holds (is_int a && is_int b) E302 (is ty.Boolean) (Is t) tt e in let f = and_parts (is_int a) (is_int b) d.0 in (int_is a f.0, int_is b f.1, sym (is_inj ty.Boolean t d.1))
+  binary_from Plus a b t e = let d = demand_holds (is_int a && is_int b) E304 (is ty.Int) (Is t) tt e in let f = and_parts (is_int a) (is_int b) d.0 in (int_is a f.0, int_is b f.1, sym (is_inj ty.Int t d.1))
+  binary_from Minus a b t e = let d = demand_holds (is_int a && is_int b) E304 (is ty.Int) (Is t) tt e in let f = and_parts (is_int a) (is_int b) d.0 in (int_is a f.0, int_is b f.1, sym (is_inj ty.Int t d.1))
+  binary_from Times a b t e = let d = demand_holds (is_int a && is_int b) E304 (is ty.Int) (Is t) tt e in let f = and_parts (is_int a) (is_int b) d.0 in (int_is a f.0, int_is b f.1, sym (is_inj ty.Int t d.1))
 
   from_binary : (o : Operator) → conclusion w (binary o (operand_type o) (operand_type o)) ≡ Is (result_type o)
   unfolding binary

@@ -5,6 +5,7 @@ use Rattle.mj_tree.specs.Trees.{Name, Expression, Statement, Statements, Block, 
 use Rattle.mj_tree.specs.declared.tree.Ty.{Ty}
 use Rattle.mj_tree.specs.declared.tree.Ty.TheVariants as ty
 use Rattle.mj_answer.specs.declared.code.Code.TheVariants.{E307, E308, E316, E317, E318, E319}
+use Rattle.mj_answer.proofs.Alike.{nowhere, Contains-first, Contains-later, Contains-cases}
 use Rattle.mj_phrases.specs.Types.{is_int, is_boolean, is_int_array}
 use Rattle.mj_phrases.specs.declared.verdict.Verdict.{Verdict}
 use Rattle.mj_phrases.specs.declared.verdict.Verdict.TheVariants.{Is, Fine, Wrong, Silent}
@@ -14,7 +15,7 @@ use Rattle.mj_phrases.specs.Phrases.{Phrase, Phrases, phrase, nothing, part, dem
 use Rattle.mj_phrases.specs.Table.{Scope, main_scope, method_scope, phrase_of, name_phrase, own_phrase, statement_phrases, statements_phrases, return_phrase, method_phrases, main_phrases, condition, print, assign, store, return_value, is_accepted, variable}
 use Rattle.mj_phrases.specs.Cases.{Accepted, IsVariable, HasTypeByCases, IsWellThroughoutByCases, AreWellThroughoutByCases, MethodIsWell, MainIsWell}
 use Rattle.mj_phrases.specs.Laws.{count, IsOfExpression, IsOfStatement, Decides, DecideAll, DecidesStatement, AllDecide}
-use Rattle.mj_phrases.proofs.Agree.{one_list, nowhere, first, later, first_or_later}
+use Rattle.mj_phrases.proofs.Agree.{one_list}
 use Rattle.mj_phrases.proofs.NeverSilent.{method_decides, main_decides}
 use Rattle.mj_phrases.proofs.ByCases.{by_cases, from_cases, accepted_from, from_accepted, variable_from, from_variable, from_one, from_two, from_three, from_none, demand_holds, asked_holds, asked_true, boolean_is, int_is, array_is}
 
@@ -90,14 +91,14 @@ module _ (w : World) where
   all_well [] d h = tt
   all_well (p ∷ ps) d h =
       elim (well_or_faulty p d.0) [
-        | inl a ↦ (a, all_well ps d.1 (λ m f. h m (f.0, later p ps f.0 f.1, f.2)))
-        | inr f ↦ absurd (h f.0 (p, first p ps, f.1))
+        | inl a ↦ (a, all_well ps d.1 (λ m f. h m (f.0, Contains-later p ps f.0 f.1, f.2)))
+        | inr f ↦ absurd (h f.0 (p, Contains-first p ps, f.1))
       ]
 
   none_faulty : (ps : List Phrase) (m : Mistake) (p : Phrase) → AllWell ps → Contains ps p → FaultIn w p m → ⊥
   none_faulty [] m p a c f = nowhere p c
   none_faulty (q ∷ qs) m p a c f =
-      elim (first_or_later q qs p c) [
+      elim (Contains-cases q qs p c) [
         | inl e ↦ well_faultless q m a.0 (subst (λ p. FaultIn w p m) (sym e) f)
         | inr l ↦ none_faulty qs m p a.1 l f
       ]

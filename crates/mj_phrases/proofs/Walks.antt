@@ -1,5 +1,6 @@
 -- The walk over phrases and their parts.
 use Rattle.std.proofs.Common.{◌≡◌, ℕ, ◌+◌, ◌<◌, ◌≤◌, List, [], ◌∷◌, ◌++◌, length, drop, get_or, Option, Some, None, Result, Ok, Err, IfOk, IfErr, refl, ap, subst, sym, ◌∙◌, append_assoc, append-nil}
+use Rattle.std.proofs.lemmas.List.{drop_all}
 use Rattle.mj_tree.specs.Views.{exp_view, exps_view}
 use Rattle.mj_tree.specs.declared.tree.Exp.{Exp}
 use Rattle.mj_tree.specs.declared.tree.Ty.{Ty}
@@ -9,7 +10,7 @@ use Rattle.mj_phrases.specs.Inquiries.{Inquiry}
 use Rattle.mj_phrases.specs.Phrases.{Phrase, Phrases, phrase, nothing, part, Finding, one_type, both_types, own_step, phrase_step, parts_step, and_type, with_type, mistakes_step}
 use Rattle.mj_phrases.specs.Steps.{Check, Proceeds, Aborts, Yields}
 use Rattle.mj_phrases.specs.Table.{Scope, phrase_of, phrases_of}
-use Rattle.mj_phrases.proofs.Asked.{Comes, memory_inside, front_at, at_end}
+use Rattle.mj_phrases.proofs.Asked.{Comes, memory_inside, front_at}
 
 pub if_ok : {A E : Type 0} {P Q : A → Type 0} (r : Result A E) → ((a : A) → P a → Q a) → IfOk r P → IfOk r Q
 if_ok (Ok a) f h = f a h
@@ -155,7 +156,7 @@ module _ {S E : Type 0} (stands : S → Check → Check → Type 0) (halts : S �
     parts_done i types mistakes new l h = record {
       goes = λ start k w.
           subst (λ x. stands new start (k (found x mistakes))) (joined-nil types)
-          (subst (λ ps. stands new start (parts_step ps mistakes (λ rest. k (found (joined types rest.type) rest.mistakes)))) (ap (λ es. phrases_of scope (exps_view es)) (at_end exps i h)) (l.comes start k w));
+          (subst (λ ps. stands new start (parts_step ps mistakes (λ rest. k (found (joined types rest.type) rest.mistakes)))) (ap (λ es. phrases_of scope (exps_view es)) (drop_all i exps h)) (l.comes start k w));
     }
 
   -- ---- phrases whose mistakes alone matter

@@ -26,7 +26,7 @@ impl<E> From<AllocError> for Stop<E> {
 }
 
 /// A method's types.
-pub trait Signature {
+pub trait MethodSignature {
     ghost sig: { Self → Sig };
 
     fn formals(&self) -> &[Ty]
@@ -36,11 +36,30 @@ pub trait Signature {
         ensures { result.now ≡ (sig self.now).returns };
 }
 
+/// The types of a method.
+#[derive(Drop)]
+pub struct MethodTypes {
+    pub formals: Vec<Ty>,
+    pub returns: Ty,
+}
+
+impl MethodSignature for MethodTypes {
+    ghost sig = { λ types. record { formals = types.formals.items; returns = types.returns } };
+
+    fn formals(&self) -> &[Ty] {
+        self.formals.as_slice()
+    }
+
+    fn returns(&self) -> &Ty {
+        &self.returns
+    }
+}
+
 /// Answers the questions of a check, one after the other, or refuses to.
 pub trait Asking {
     type Refusal: Drop;
 
-    type Method: Signature + Drop;
+    type Method: MethodSignature + Drop;
 
     /// A check that began with the first inquiry has come to the second.
     ghost stands: { Self → Check → Check → Type 0 };
@@ -110,7 +129,7 @@ pub trait Asking {
 
 /// Declarations that answer by themselves.
 pub trait Environment {
-    type Method: Signature + Drop;
+    type Method: MethodSignature + Drop;
 
     ghost world: { Self → World };
 

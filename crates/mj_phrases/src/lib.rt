@@ -11,7 +11,7 @@ mod types;
 mod verdict;
 mod walk;
 
-pub use asking::{Asking, Environment, Signature, Stop};
+pub use asking::{Asking, Environment, MethodSignature, MethodTypes, Stop};
 pub use laws::{case_laws, row_laws, typing_laws};
 pub use rows::return_value;
 pub use scope::Scope;

@@ -4,7 +4,7 @@ ghost use Rattle.mj_phrases.specs.Inquiries.{Concludes, and_then};
 ghost use Rattle.mj_phrases.specs.Steps.{Proceeds, Aborts};
 ghost use Rattle.mj_phrases.specs.Table.{is_accepted, are_accepted, literal, field_row, variable, this, negation, binary, index, array_length, arguments, call, new_array, new_object, condition, print, assign, store, return_value};
 
-use crate::asking::{Asking, Signature, Stop};
+use crate::asking::{Asking, MethodSignature, Stop};
 use crate::scope::Scope;
 use crate::types::{is_boolean, is_int, is_int_array};
 use crate::verdict::Verdict;

@@ -30,8 +30,8 @@ place_before n xs x h =
 pub contains_before : {X : Type 0} (n i : ℕ) (xs : List X) (x : X) → i < n → slice_get xs i ≡ Some x → Contains (take n xs) x
 contains_before n i xs x h e = contains_at (take n xs) i x (slice_get-take n i xs h ∙ e)
 
--- an element of the mapped list comes from an element
-from_map : {A B : Type 0} (f : A → B) (o : Option A) (y : B) → option_map f o ≡ Some y → (x : A) × (o ≡ Some x) × (f x ≡ y)
+-- what a mapped option holds comes from what the option holds
+pub from_map : {A B : Type 0} (f : A → B) (o : Option A) (y : B) → option_map f o ≡ Some y → (x : A) × (o ≡ Some x) × (f x ≡ y)
 from_map f None y e = absurd (none-some y e)
 from_map f (Some x) y e = (x, refl, same_Some (f x) y e)
 

@@ -57,7 +57,7 @@ flag_at names i name e =
 
 -- ---- texts in a set
 
-cond_or : (b x : Bool) → cond b true x ≡ (x || (b || false))
+pub cond_or : (b x : Bool) → cond b true x ≡ (x || (b || false))
 cond_or true true = refl
 cond_or true false = refl
 cond_or false true = refl

@@ -9,6 +9,7 @@ use Rattle.mj_answer.proofs.Alike.{Contains-first, Contains-later}
 use Rattle.mj_members.specs.Declarations.{ClassDecl}
 use Rattle.mj_classes.specs.Declarations.{decl}
 use Rattle.mj_classes.specs.Laws.{ChainLaws, MemberLaws}
+use Rattle.mj_classes.proofs.Climb.{decl_name}
 use Rattle.mj_project.specs.Projects.{SourceFile}
 use Rattle.profiles.specs.declared.profile.Profile.{Profile}
 use Rattle.mj_rules.specs.Sentences.{classes_in}
@@ -17,7 +18,6 @@ use Rattle.mj_rules.specs.FaultLists.{project_faults, NamesFitIn, class_faults, 
 use Rattle.mj_rules.specs.Answering.{set_of, name_order, fault_order, class_answer, rules_of}
 use Rattle.mj_rules.specs.Laws.{SentenceLaw, BodyFaultLaws}
 use Rattle.mj_project.proofs.Listed.{place_of, at_map}
-use Rattle.mj_rules.proofs.Overriding.{decl-name}
 use Rattle.mj_rules.proofs.RowLemmas.{finds_one}
 use Rattle.mj_rules.proofs.Sets.{names_compare, faults_compare, set_ascends, from_set, to_set}
 use Rattle.mj_rules.proofs.Composing.{class_answer as answer_of_class, class_answers, project_answer}
@@ -37,7 +37,7 @@ is_named cs n None e h =
 module _ (chains : ChainLaws) (members : MemberLaws) (bodies : BodyFaultLaws) (profile : Profile) (cs : List ClassDecl) (fit : NamesFitIn cs) where
   right_class : (n : Name) (k : ClassDecl) → decl cs n ≡ Some k → IsAnswerFor profile cs (class_answer profile cs k)
   right_class n k e =
-      answer_of_class chains members bodies profile cs fit k (class_answer profile cs k) (ap (decl cs) (decl-name cs n k e) ∙ e) refl refl
+      answer_of_class chains members bodies profile cs fit k (class_answer profile cs k) (ap (decl cs) (decl_name cs n k e) ∙ e) refl refl
       (set_ascends fault_order Before faults_compare (class_faults profile cs k)) (λ d. (from_set fault_order Before faults_compare (class_faults profile cs k) d, to_set fault_order Before faults_compare (class_faults profile cs k) d))
 
   abbrev answers_for : List Name → List ClassAnswerValue
@@ -58,7 +58,7 @@ module _ (chains : ChainLaws) (members : MemberLaws) (bodies : BodyFaultLaws) (p
   all_named (n ∷ names) h =
       let k = is_named cs n (decl cs n) refl (h n (Contains-first n names)) in
       ap (map (λ (c : ClassAnswerValue). c.name)) (one_more n names k.0 k.1)
-      ∙ ap₂ (λ (m : Name) (ms : List Name). m ∷ ms) (decl-name cs n k.0 k.1) (all_named names (λ m i. h m (Contains-later n names m i)))
+      ∙ ap₂ (λ (m : Name) (ms : List Name). m ∷ ms) (decl_name cs n k.0 k.1) (all_named names (λ m i. h m (Contains-later n names m i)))
 
 module _ (chains : ChainLaws) (members : MemberLaws) (bodies : BodyFaultLaws) (sentences : SentenceLaw) (profile : Profile) (files : List SourceFile) where
   abbrev sorted_names : List Name

@@ -1,7 +1,8 @@
 -- The list of a class's diagnostics has just those of the rows.
 use Rattle.std.proofs.Common.{◌≡◌, ℕ, ◌<◌, Bool, true, false, not, List, [], take, slice_get, Option, Some, None, is_none, option_map, Contains, refl, sym, ap, subst, ◌∙◌, inl, inr, true≢false, ◌↔◌}
 use Rattle.std.proofs.lemmas.List.Elements.{Contains-append_left, Contains-append_right, Contains-append_cases}
-use Rattle.mj_answer.proofs.Alike.{Contains-first}
+use Rattle.std.proofs.lemmas.Bool.{not-true, false_from_ne_true}
+use Rattle.mj_answer.proofs.Alike.{Contains-first, nowhere}
 use Rattle.mj_tree.specs.Trees.{Name, Statement, Method}
 use Rattle.mj_tree.specs.declared.tree.Ty.{Ty}
 use Rattle.mj_tree.specs.declared.tree.Ty.TheVariants as types
@@ -26,7 +27,7 @@ use Rattle.mj_rules.specs.FaultLists.{fault, when_fault, each_numbered, supercla
 use Rattle.mj_rules.specs.Laws.{BodyFaultLaws}
 use Rattle.mj_project.proofs.Listed.{place_before, contains_before, contains_at, at_map, map_at, place_of}
 use Rattle.mj_project.proofs.RepeatLemmas.{Contains-is_in, is_in-Contains, repeats-at, flag_at}
-use Rattle.mj_rules.proofs.Numbered.{nowhere, only, from_when, to_when, IsFlagged, from_all, to_all}
+use Rattle.mj_rules.proofs.Numbered.{only, from_when, to_when, IsFlagged, from_all, to_all}
 use Rattle.mj_rules.proofs.MayOverride.{may_from, may_to}
 use Rattle.mj_rules.proofs.Overriding.{overridden_from, overridden_to}
 use Rattle.mj_rules.proofs.OneAnswer.{decl_stands}
@@ -35,23 +36,17 @@ none_when : {A : Type 0} (o : Option A) → is_none o ≡ true → o ≡ None
 none_when None e = refl
 none_when (Some x) e = absurd (true≢false (sym e))
 
-not_when : (b : Bool) → not b ≡ true → b ≡ false
-not_when false e = refl
-not_when true e = absurd (true≢false (sym e))
-
-when_not : (b : Bool) → (b ≡ true → ⊥) → b ≡ false
-when_not false never = refl
-when_not true never = absurd (never refl)
-
 -- ---- mistakes in bodies
 
-from_inside : (m : Name) (mistakes : List Mistake) (d : Diagnostic) → Contains (inside m mistakes) d → (x : Mistake) × Contains mistakes x × (fault (places.Inside m x.mark) x.code ≡ d)
+-- what is listed inside a method comes from a mistake
+pub from_inside : (m : Name) (mistakes : List Mistake) (d : Diagnostic) → Contains (inside m mistakes) d → (x : Mistake) × Contains mistakes x × (fault (places.Inside m x.mark) x.code ≡ d)
 from_inside m mistakes d h =
     let p = place_of (inside m mistakes) d h in
     let x = at_map (λ (y : Mistake). fault (places.Inside m y.mark) y.code) mistakes p.0 d p.1 in
     (x.0, contains_at mistakes p.0 x.0 x.1, x.2)
 
-to_inside : (m : Name) (mistakes : List Mistake) (x : Mistake) → Contains mistakes x → Contains (inside m mistakes) (fault (places.Inside m x.mark) x.code)
+-- each mistake is listed inside its method
+pub to_inside : (m : Name) (mistakes : List Mistake) (x : Mistake) → Contains mistakes x → Contains (inside m mistakes) (fault (places.Inside m x.mark) x.code)
 to_inside m mistakes x h =
     let p = place_of mistakes x h in
     contains_at (inside m mistakes) p.0 _ (map_at (λ (y : Mistake). fault (places.Inside m y.mark) y.code) mistakes p.0 x p.1)
@@ -110,7 +105,7 @@ module _ (chains : ChainLaws) (bodies : BodyFaultLaws) (profile : Profile) (cs :
   }
 
   not_before : (n : ℕ) (m : Method) → IsFirstMethod k n m → is_in (take n (method_names k)) m.name ≡ false
-  not_before n m is = when_not (is_in (take n (method_names k)) m.name) (λ e. later (place_before n (method_names k) m.name (Contains-is_in (take n (method_names k)) m.name e)))
+  not_before n m is = false_from_ne_true (is_in (take n (method_names k)) m.name) (λ e. later (place_before n (method_names k) m.name (Contains-is_in (take n (method_names k)) m.name e)))
     where
       later : (i : ℕ) × (i < n) × (slice_get (method_names k) i ≡ Some m.name) → ⊥
       later p = let f = at_map (λ (f : Method). f.name) k.methods p.0 m.name p.2 in is.first p.0 f.0 p.1 f.1 f.2
@@ -121,7 +116,7 @@ module _ (chains : ChainLaws) (bodies : BodyFaultLaws) (profile : Profile) (cs :
   from_override d n m (Some found) is e h =
       let w = from_when (not (may_override profile cs m (sig_of found.1))) (places.Method n) E205 d h in
       subst Row w.1 (OtherSignature n m found.1 is (overridden_from chains cs k.name m.name k found.0 found.1 first e)
-      (λ may. true≢false (sym (may_to profile cs m found.1 may) ∙ not_when (may_override profile cs m (sig_of found.1)) w.0)))
+      (λ may. true≢false (sym (may_to profile cs m found.1 may) ∙ not-true (may_override profile cs m (sig_of found.1)) w.0)))
 
   by_flag : (d : Diagnostic) (n : ℕ) (m : Method) (flag : Bool) → slice_get k.methods n ≡ Some m → flag ≡ is_in (take n (method_names k)) m.name → Contains (method_faults_of profile cs (nearest_sig (rest_of cs k.name)) n flag m) d → Row d
   by_flag d n m true e s h =
@@ -251,7 +246,7 @@ module _ (chains : ChainLaws) (bodies : BodyFaultLaws) (profile : Profile) (cs :
       in_methods _ (to_all (method_faults_of profile cs (nearest_sig (rest_of cs k.name))) k.methods (repeats (method_names k)) _ n flag.0 m en flag.1
       (subst (λ b. Contains (method_faults_of profile cs (nearest_sig (rest_of cs k.name)) n b m) (fault (places.Method n) E204)) (sym set) (Contains-first _ [])))
   to_class_faults (OtherSignature n m found is over other) =
-      let differs : not (may_override profile cs m (sig_of found)) ≡ true = ap not (when_not (may_override profile cs m (sig_of found)) (λ e. other (may_from profile cs m found e))) in
+      let differs : not (may_override profile cs m (sig_of found)) ≡ true = ap not (false_from_ne_true (may_override profile cs m (sig_of found)) (λ e. other (may_from profile cs m found e))) in
       in_first_method n m _ is
       (subst (λ (o : Option (Name × Method)). Contains (override_faults profile cs n m (option_map (λ (f : Name × Method). sig_of f.1) o)) (fault (places.Method n) E205)) (sym (overridden_to chains cs k.name m.name found over)) (to_when _ _ _ differs))
   to_class_faults (UndeclaredFieldType n f u en et none) =

@@ -18,11 +18,11 @@ use Rattle.mj_parser.specs.FileReading.{tree_of}
 use Rattle.mj_parser.specs.MarkBounds.{VariableBelow, MethodMarksBelow, ClassMarksBelow, FileMarksBelow}
 use Rattle.mj_parser.proofs.FileFound.{file_found}
 use Rattle.mj_parser.proofs.Bounds.{marks_below}
+use Rattle.mj_answer.proofs.Alike.{nowhere, Contains-first, Contains-later, Contains-cases}
 use Rattle.mj_members.specs.Declarations.{ClassDecl, main_decl, class_decl}
 use Rattle.mj_classes.specs.Declarations.{number_classes, main_first, classes_of, declared_from, decl}
 use Rattle.mj_project.specs.Projects.{SourceFile}
 use Rattle.mj_phrases.specs.Variables.{name_token}
-use Rattle.mj_phrases.proofs.Agree.{nowhere, first, later, first_or_later}
 use Rattle.mj_typing.specs.Bodies.{NamesFit}
 use Rattle.mj_rules.specs.Sentences.{file_of, trees_of, classes_in}
 use Rattle.mj_rules.specs.FaultLists.{NamesFitIn}
@@ -82,15 +82,15 @@ module _ (n : ℕ) (few : n ≤ limit) where
   numbered_orderly : (file number : ℕ) (cs : List Class) → ((c : Class) → Contains cs c → ClassMarksBelow n c) → (k : ClassDecl) → Contains (number_classes file number cs) k → IsOrderly k
   numbered_orderly file number [] h k e = absurd (nowhere k e)
   numbered_orderly file number (c ∷ cs) h k e =
-      elim (first_or_later (class_decl file number c) (number_classes file (suc number) cs) k e) [
-        | inl is ↦ subst IsOrderly is (plain_orderly file number c (h c (first c cs)))
-        | inr l ↦ numbered_orderly file (suc number) cs (λ d b. h d (later c cs d b)) k l
+      elim (Contains-cases (class_decl file number c) (number_classes file (suc number) cs) k e) [
+        | inl is ↦ subst IsOrderly is (plain_orderly file number c (h c (Contains-first c cs)))
+        | inr l ↦ numbered_orderly file (suc number) cs (λ d b. h d (Contains-later c cs d b)) k l
       ]
 
   main_first_orderly : (file : ℕ) (o : Option Main) (cs : List Class) → ((c : Class) → Contains cs c → ClassMarksBelow n c) → (k : ClassDecl) → Contains (main_first file o cs) k → IsOrderly k
   main_first_orderly file None cs h k e = numbered_orderly file 0 cs h k e
   main_first_orderly file (Some main) cs h k e =
-      elim (first_or_later (main_decl file main) (number_classes file 1 cs) k e) [
+      elim (Contains-cases (main_decl file main) (number_classes file 1 cs) k e) [
         | inl is ↦ subst IsOrderly is (record { main_alone = λ statement d. refl; names_fit = λ m d. absurd (nowhere m d) })
         | inr l ↦ numbered_orderly file 1 cs h k l
       ]

@@ -24,7 +24,7 @@ use Rattle.mj_classes.proofs.Climb.{decl_name, is_chain_of, links_declared}
 use Rattle.mj_classes.proofs.Nearest.{ancestry_of_chain}
 use Rattle.mj_project.specs.Repeats.{repeats}
 use Rattle.profiles.specs.declared.profile.Profile.{Profile}
-use Rattle.mj_rules.specs.Tables.{table_along, behind}
+use Rattle.mj_rules.specs.Tables.{table_along, without_first}
 use Rattle.mj_rules.specs.FaultLists.{when_fault, is_cycle, chain_faults, rest_of, nearest_sig, each_numbered, method_faults_of, override_faults, fault}
 use Rattle.mj_rules.specs.Worlds.{sig_of}
 use Rattle.mj_rules.proofs.RowLemmas.{each_same}
@@ -77,12 +77,12 @@ nearest_declaring m (k ∷ ks) = by (has_members k) refl (nearest_declaring m ks
 -- ---- the rest of a chain
 
 -- of classes of other names none is left out
-others_stay : (cs : List ClassDecl) (c : Name) (names : List Name) → (Contains names c → ⊥) → behind c (filter has_members (filter_map (decl cs) names)) ≡ filter has_members (filter_map (decl cs) names)
+others_stay : (cs : List ClassDecl) (c : Name) (names : List Name) → (Contains names c → ⊥) → without_first c (filter has_members (filter_map (decl cs) names)) ≡ filter has_members (filter_map (decl cs) names)
 others_stay cs c [] apart = refl
 others_stay cs c (x ∷ xs) apart = by (decl cs x) refl (others_stay cs c xs (λ h. apart (Contains-append_right (x ∷ []) xs c h)))
   where
     Stay : List ClassDecl → Type 0
-    Stay ks = behind c ks ≡ ks
+    Stay ks = without_first c ks ≡ ks
 
     not_it : (j : ClassDecl) → decl cs x ≡ Some j → (b : Bool) → bytes_eq j.name c ≡ b → b ≡ false
     not_it j e true t = absurd (apart (subst (Contains (x ∷ xs)) (sym (decl_name cs x j e) ∙ (bytes_eq-Decides j.name c).0 t) (Contains-first x xs)))
@@ -96,15 +96,15 @@ others_stay cs c (x ∷ xs) apart = by (decl cs x) refl (others_stay cs c xs (λ
     by None e rest = rest
     by (Some j) e rest = by_test j e (has_members j) rest
 
-pub rest_declaring : (cs : List ClassDecl) (c : Name) (end : EndOf) → option_map (λ (p : Chain). p.1) (chain_of cs c) ≡ Some end → behind c (filter has_members (ancestry cs c)) ≡ filter has_members (rest_of cs c)
+pub rest_declaring : (cs : List ClassDecl) (c : Name) (end : EndOf) → option_map (λ (p : Chain). p.1) (chain_of cs c) ≡ Some end → without_first c (filter has_members (ancestry cs c)) ≡ filter has_members (rest_of cs c)
 rest_declaring cs c end e = by (chain_of cs c) refl e
   where
-    by_test : (k : ClassDecl) (ks : List ClassDecl) → k.name ≡ c → behind c (filter has_members ks) ≡ filter has_members ks → (b : Bool)
-        → behind c (cond b (k ∷ filter has_members ks) (filter has_members ks)) ≡ filter has_members ks
+    by_test : (k : ClassDecl) (ks : List ClassDecl) → k.name ≡ c → without_first c (filter has_members ks) ≡ filter has_members ks → (b : Bool)
+        → without_first c (cond b (k ∷ filter has_members ks) (filter has_members ks)) ≡ filter has_members ks
     by_test k ks name stay true = ap (λ t. cond t (filter has_members ks) (k ∷ filter has_members ks)) ((bytes_eq-Decides k.name c).1 name)
     by_test k ks name stay false = stay
 
-    by_names : (chain rest : List Name) (last : EndOf) → IsChain cs c chain last → chain ≡ c ∷ rest → behind c (filter has_members (ancestry cs c)) ≡ filter has_members (rest_of cs c)
+    by_names : (chain rest : List Name) (last : EndOf) → IsChain cs c chain last → chain ≡ c ∷ rest → without_first c (filter has_members (ancestry cs c)) ≡ filter has_members (rest_of cs c)
     by_names chain rest last is first =
         let links = subst (λ (xs : List Name). IsChain cs c xs last) first is in
         let k = links_declared cs (c ∷ rest) c rest last links.links in
@@ -113,7 +113,7 @@ rest_declaring cs c end e = by (chain_of cs c) refl e
         let stay = others_stay cs c rest links.distinct.0 in
         rw classes (by_test k.0 (filter_map (decl cs) rest) (decl_name cs c k.0 k.1) stay (has_members k.0))
 
-    by : (o : Option Chain) → chain_of cs c ≡ o → option_map (λ (p : Chain). p.1) o ≡ Some end → behind c (filter has_members (ancestry cs c)) ≡ filter has_members (rest_of cs c)
+    by : (o : Option Chain) → chain_of cs c ≡ o → option_map (λ (p : Chain). p.1) o ≡ Some end → without_first c (filter has_members (ancestry cs c)) ≡ filter has_members (rest_of cs c)
     by None f g = absurd (none-some end g)
     by (Some chain) f g =
         let is = is_chain_of cs c chain.0 chain.1 f in
@@ -121,13 +121,13 @@ rest_declaring cs c end e = by (chain_of cs c) refl e
 
 -- the methods behind a class are those of the rest of its chain
 pub methods_behind : (profile : Profile) (cs : List ClassDecl) (c : Name) (end : EndOf) (classes : List ClassDecl) → option_map (λ (p : Chain). p.1) (chain_of cs c) ≡ Some end → classes ≡ filter has_members (ancestry cs c)
-    → (ms : List Method) (flags : List Bool) → each_numbered (method_faults_of profile cs (nearest_sig (behind c classes))) 0 ms flags ≡ each_numbered (method_faults_of profile cs (nearest_sig (rest_of cs c))) 0 ms flags
+    → (ms : List Method) (flags : List Bool) → each_numbered (method_faults_of profile cs (nearest_sig (without_first c classes))) 0 ms flags ≡ each_numbered (method_faults_of profile cs (nearest_sig (rest_of cs c))) 0 ms flags
 methods_behind profile cs c end classes e same ms flags =
-    each_same (method_faults_of profile cs (nearest_sig (behind c classes))) (method_faults_of profile cs (nearest_sig (rest_of cs c))) (λ n b m. ap (λ o. if b then fault (places.Method n) E204 ∷ [] else override_faults profile cs n m o) (sig m.name)) 0 ms flags
+    each_same (method_faults_of profile cs (nearest_sig (without_first c classes))) (method_faults_of profile cs (nearest_sig (rest_of cs c))) (λ n b m. ap (λ o. if b then fault (places.Method n) E204 ∷ [] else override_faults profile cs n m o) (sig m.name)) 0 ms flags
   where
-    sig : (x : Name) → nearest_sig (behind c classes) x ≡ nearest_sig (rest_of cs c) x
+    sig : (x : Name) → nearest_sig (without_first c classes) x ≡ nearest_sig (rest_of cs c) x
     sig x =
-        ap (λ ks. nearest_sig ks x) (ap (behind c) same ∙ rest_declaring cs c end e)
+        ap (λ ks. nearest_sig ks x) (ap (without_first c) same ∙ rest_declaring cs c end e)
         ∙ ap (option_map (λ (found : Name × Method). sig_of found.1)) (nearest_declaring x (rest_of cs c))
 
 -- without methods there is none that overrides

@@ -1,5 +1,6 @@
 -- The test of a method that overrides another passes exactly where it may.
 use Rattle.std.proofs.Common.{◌≡◌, true, List, map, ap, sym, ◌∙◌, ◌↔◌}
+use Rattle.std.proofs.lemmas.Bool.{and_parts, and_from}
 use Rattle.mj_tree.specs.Trees.{Method}
 use Rattle.mj_tree.specs.declared.tree.Ty.{Ty}
 use Rattle.mj_tree.specs.declared.tree.Variable.{Variable}
@@ -11,7 +12,7 @@ use Rattle.profiles.specs.declared.profile.Profile.TheVariants.{One, Two}
 use Rattle.mj_rules.specs.Worlds.{sig_of, world_of}
 use Rattle.mj_rules.specs.ClassFaults.{MayOverride}
 use Rattle.mj_rules.specs.FaultLists.{same_types, accepts, may_override}
-use Rattle.mj_rules.proofs.Signatures.{both, both_hold, types_from, types_itself, signature_from, signature_to}
+use Rattle.mj_rules.proofs.Signatures.{types_from, types_itself, signature_from, signature_to}
 use Rattle.mj_rules.proofs.WorldLaws.{world_law}
 
 -- the test of acceptance is that of the check of a body, which is what the chains say
@@ -24,9 +25,9 @@ pub may_from : (profile : Profile) (cs : List ClassDecl) (m found : Method) → 
 may_from One cs m found e = signature_from m (sig_of found) e
 may_from Two cs m found e =
     let formals = map (λ (v : Variable). v.ty) found.formals in
-    let w = both (same_types m.formals formals) (accepts cs m.returns found.returns) e in
+    let w = and_parts (same_types m.formals formals) (accepts cs m.returns found.returns) e in
     (sym (types_from m.formals formals w.0), (accepted cs m.returns found.returns).0 w.1)
 
 pub may_to : (profile : Profile) (cs : List ClassDecl) (m found : Method) → MayOverride profile cs m found → may_override profile cs m (sig_of found) ≡ true
 may_to One cs m found same = signature_to m (sig_of found) same
-may_to Two cs m found may = both_hold _ _ (ap (same_types m.formals) may.0 ∙ types_itself m.formals) ((accepted cs m.returns found.returns).1 may.1)
+may_to Two cs m found may = and_from _ _ (ap (same_types m.formals) may.0 ∙ types_itself m.formals) ((accepted cs m.returns found.returns).1 may.1)

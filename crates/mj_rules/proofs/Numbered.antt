@@ -1,15 +1,12 @@
 -- Diagnostics in numbered lists.
-use Rattle.std.proofs.Common.{◌≡◌, ℕ, zero, suc, ◌+◌, ◌<◌, Bool, true, false, List, [], ◌∷◌, slice_get, Some, Contains, refl, sym, subst, arith, inl, inr}
+use Rattle.std.proofs.Common.{◌≡◌, ℕ, zero, suc, ◌+◌, Bool, true, false, List, [], ◌∷◌, slice_get, Some, Contains, refl, sym, subst, arith, inl, inr}
 use Rattle.std.proofs.lemmas.Option.{none-some, same_Some}
 use Rattle.std.proofs.lemmas.List.Elements.{Contains-append_left, Contains-append_right, Contains-append_cases}
 use Rattle.mj_tree.specs.declared.place.Place.{Place}
 use Rattle.mj_answer.specs.declared.code.Code.{Code}
 use Rattle.mj_answer.specs.declared.diagnostic.Diagnostic.{Diagnostic}
-use Rattle.mj_answer.proofs.Alike.{Contains-cases, Contains-first}
+use Rattle.mj_answer.proofs.Alike.{Contains-cases, Contains-first, nowhere}
 use Rattle.mj_rules.specs.FaultLists.{fault, when_fault, each_numbered}
-
-pub nowhere : {X : Type 0} (x : X) → Contains [] x → ⊥
-nowhere x h = let below : h.0 < 0 = h.1 in omega arith
 
 pub only : {X : Type 0} (x y : X) → Contains (x ∷ []) y → x ≡ y
 only x y h = elim (Contains-cases x [] y h) [ inl e ↦ e | inr n ↦ absurd (nowhere y n) ]

@@ -13,22 +13,23 @@ use Rattle.mj_answer.proofs.Orders.{names, faults}
 use Rattle.mj_answer.proofs.Alike.{one_list_by}
 use Rattle.mj_members.specs.Declarations.{ClassDecl}
 use Rattle.mj_classes.specs.Declarations.{decl}
+use Rattle.mj_classes.proofs.Climb.{decl_name}
 use Rattle.mj_project.specs.Projects.{SourceFile}
 use Rattle.profiles.specs.declared.profile.Profile.{Profile}
 use Rattle.mj_rules.specs.Sentences.{classes_in}
 use Rattle.mj_rules.specs.ClassFaults.{FaultOfClass}
 use Rattle.mj_rules.specs.Rules.{AreTheFaults, IsTableOf, IsAnswerFor, Rules}
 use Rattle.mj_project.proofs.Listed.{contains_at, place_of, at_map}
-use Rattle.mj_rules.proofs.Overriding.{decl-name}
 use Rattle.mj_rules.proofs.RowLemmas.{found_stands}
 
 -- one list has just these diagnostics
-one_fault_list : (Fault : Place → Code → Type 0) (ds es : List Diagnostic) → AreTheFaults Fault ds → AreTheFaults Fault es → ds ≡ es
+pub one_fault_list : (Fault : Place → Code → Type 0) (ds es : List Diagnostic) → AreTheFaults Fault ds → AreTheFaults Fault es → ds ≡ es
 one_fault_list Fault ds es a b =
     one_list_by Diagnostic Diagnostic (λ d. d) Before faults ds es a.ascending b.ascending
     (λ d. (λ h. (b.exactly d.place d.code).1 ((a.exactly d.place d.code).0 h), λ h. (a.exactly d.place d.code).1 ((b.exactly d.place d.code).0 h)))
 
-one_table : (cs : List ClassDecl) (c : Name) (t u : ClassTableValue) → IsTableOf cs c t → IsTableOf cs c u → t ≡ u
+-- a class has one table
+pub one_table : (cs : List ClassDecl) (c : Name) (t u : ClassTableValue) → IsTableOf cs c t → IsTableOf cs c u → t ≡ u
 one_table cs c t u a b =
     let fields = one_list_by FieldRow Name (λ row. row.name) NameBefore names t.fields u.fields a.fields_ascend b.fields_ascend
     (λ row. (λ h. (b.fields row).1 ((a.fields row).0 h), λ h. (a.fields row).1 ((b.fields row).0 h))) in
@@ -58,7 +59,7 @@ module _ (profile : Profile) (files : List SourceFile) where
       let p = place_of (map (λ (c : ClassAnswerValue). c.name) b.classes) is.class.name named in
       let y = at_map (λ (c : ClassAnswerValue). c.name) b.classes p.0 is.class.name p.1 in
       let stands = contains_at b.classes p.0 y.0 y.1 in
-      let same : x.name ≡ y.0.name = sym (decl-name (classes_in files) x.name is.class is.first) ∙ sym y.2 in
+      let same : x.name ≡ y.0.name = sym (decl_name (classes_in files) x.name is.class is.first) ∙ sym y.2 in
       subst (Contains b.classes) (sym (one_class profile (classes_in files) x y.0 is (All-contains (IsAnswerFor profile (classes_in files)) b.classes y.0 rb.classes.each stands) same)) stands
 
   pub one_answer : (a b : AnswerValue) → Rules profile files a → Rules profile files b → a ≡ b

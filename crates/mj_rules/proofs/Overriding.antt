@@ -1,31 +1,17 @@
 -- The nearest method behind a class in its chain.
-use Rattle.std.proofs.Common.{◌≡◌, Bool, true, false, List, [], ◌∷◌, ◌++◌, drop, Option, Some, None, find, Contains, refl, sym, ap, subst, ◌∙◌, inl, inr, bytes_eq, cond}
+use Rattle.std.proofs.Common.{◌≡◌, List, [], ◌∷◌, ◌++◌, drop, Option, Some, None, Contains, refl, sym, ap, subst, ◌∙◌, inl, inr}
 use Rattle.std.specs.List.{filter_map, cons_option}
 use Rattle.std.proofs.lemmas.Option.{none-some, same_Some}
-use Rattle.std.proofs.lemmas.Slice.Eq.{bytes_eq-Decides}
-use Rattle.mj_answer.proofs.Alike.{Contains-cases, Contains-first, Contains-later}
+use Rattle.mj_answer.proofs.Alike.{Contains-cases, Contains-first, Contains-later, nowhere}
 use Rattle.mj_tree.specs.Trees.{Name, Method}
 use Rattle.mj_members.specs.Declarations.{ClassDecl}
 use Rattle.mj_classes.specs.Declarations.{decl}
 use Rattle.mj_classes.specs.Chains.{EndOf, Top, Undeclared, Repeated, Ends, Links, IsChain, chain_names, ancestry}
 use Rattle.mj_classes.specs.Members.{nearest, or_farther, own_method}
 use Rattle.mj_classes.specs.Laws.{ChainLaws}
+use Rattle.mj_classes.proofs.Climb.{decl_name}
 use Rattle.mj_rules.specs.ClassFaults.{IsOverridden}
 use Rattle.mj_rules.specs.FaultLists.{rest_of}
-use Rattle.mj_rules.proofs.Numbered.{nowhere}
-
--- the declared class of a name has that name
-named_by : (c : Name) (j k : ClassDecl) (b : Bool) (rest : Option ClassDecl) → bytes_eq j.name c ≡ b → (rest ≡ Some k → k.name ≡ c) → cond b (Some j) rest ≡ Some k → k.name ≡ c
-named_by c j k true rest t behind f = ap (λ (i : ClassDecl). i.name) (sym (same_Some j k f)) ∙ (bytes_eq-Decides j.name c).0 t
-named_by c j k false rest t behind f = behind f
-
-found_named : (c : Name) (cs : List ClassDecl) (k : ClassDecl) → find (λ (j : ClassDecl). bytes_eq j.name c) cs ≡ Some k → k.name ≡ c
-found_named c [] k e = absurd (none-some k e)
-found_named c (j ∷ cs) k e = named_by c j k (bytes_eq j.name c) (find (λ (i : ClassDecl). bytes_eq i.name c) cs) refl (found_named c cs k) e
-
-pub decl-name : (cs : List ClassDecl) (c : Name) (k : ClassDecl) → decl cs c ≡ Some k → k.name ≡ c
-unfolding decl
-decl-name cs c k e = found_named c cs k e
 
 -- each name is declared
 pub data AreDeclared (cs : List ClassDecl) : List Name → Type 0 where
@@ -93,7 +79,7 @@ module _ (cs : List ClassDecl) (m : Name) where
       → nearest (own_method m) (classes_of_names cs (nearer ++ (owner ∷ farther))) ≡ Some (owner, found)
   to_nearest [] farther owner found all lacks here =
       along_cons owner here.0 farther here.1 ∙ (ap (λ o. or_farther here.0.name o (nearest (own_method m) (classes_of_names cs farther))) here.2
-      ∙ ap (λ (n : Name). Some (n, found)) (decl-name cs owner here.0 here.1))
+      ∙ ap (λ (n : Name). Some (n, found)) (decl_name cs owner here.0 here.1))
   to_nearest (c ∷ nearer) farther owner found (one k ek all) lacks here =
       along_cons c k (nearer ++ (owner ∷ farther)) ek ∙ (ap (λ o. or_farther k.name o (nearest (own_method m) (classes_of_names cs (nearer ++ (owner ∷ farther))))) (lacks c k (Contains-first c nearer) ek)
       ∙ to_nearest nearer farther owner found all (λ d j h. lacks d j (Contains-later c nearer d h)) here)

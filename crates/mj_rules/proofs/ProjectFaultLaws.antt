@@ -4,13 +4,14 @@ use Rattle.std.proofs.Math.Bool.{or_assoc}
 use Rattle.std.proofs.lemmas.Option.{none-some, same_Some}
 use Rattle.std.proofs.lemmas.List.Elements.{Contains-append_left, Contains-append_right, Contains-append_cases}
 use Rattle.std.proofs.lemmas.List.Folds.{Any-from_list_any, list_any_at}
+use Rattle.std.proofs.lemmas.Bool.{and_parts}
 use Rattle.mj_tree.specs.Trees.{File}
 use Rattle.mj_tree.specs.declared.place.Place.{Place}
 use Rattle.mj_tree.specs.declared.place.Place.TheVariants as places
 use Rattle.mj_answer.specs.declared.code.Code.{Code}
 use Rattle.mj_answer.specs.declared.code.Code.TheVariants.{E101, E102, E103, E104}
 use Rattle.mj_answer.specs.declared.diagnostic.Diagnostic.{Diagnostic}
-use Rattle.mj_answer.proofs.Alike.{Contains-first}
+use Rattle.mj_answer.proofs.Alike.{Contains-first, nowhere}
 use Rattle.mj_members.specs.Declarations.{ClassDecl}
 use Rattle.mj_project.specs.Projects.{SourceFile}
 use Rattle.mj_project.specs.Repeats.{is_in, repeats}
@@ -20,11 +21,7 @@ use Rattle.mj_rules.specs.FaultLists.{fault, when_fault, each_numbered, has_main
 use Rattle.mj_rules.specs.Laws.{SentenceLaw, ProjectFaultLaw}
 use Rattle.mj_project.proofs.Listed.{contains_at, place_before, contains_before, at_map, map_at, place_of}
 use Rattle.mj_project.proofs.RepeatLemmas.{Contains-is_in, is_in-Contains, repeats-at, flag_at}
-use Rattle.mj_rules.proofs.Numbered.{nowhere, only, from_when, to_when, IsFlagged, from_all, to_all}
-
-both_true : (a b : Bool) → (a && b) ≡ true → (a ≡ true) × (b ≡ true)
-both_true true b e = (refl, e)
-both_true false b e = absurd (true≢false (sym e))
+use Rattle.mj_rules.proofs.Numbered.{only, from_when, to_when, IsFlagged, from_all, to_all}
 
 or_false : (b : Bool) → b ≡ (b || false)
 or_false true = refl
@@ -91,7 +88,7 @@ module _ (sentences : SentenceLaw) (files : List SourceFile) where
   by_tree d i f None e t h = subst Row (only _ d h) (NoSentence f (contains_at files i f e) (λ tree s. none-some tree (sym t ∙ (sentences f.bytes tree).0 s)))
   by_tree d i f (Some tree) e t h =
       let w = from_when (any_main (take i files) && is_some tree.main) (places.File f.name) E103 d h in
-      let both = both_true (any_main (take i files)) (is_some tree.main) w.0 in
+      let both = and_parts (any_main (take i files)) (is_some tree.main) w.0 in
       let earlier = earlier_main i both.0 in
       subst Row w.1 (SecondMain earlier.0 i earlier.1 f earlier.2 earlier.3 (has_main_at i f (Some tree) e t both.1))
 

@@ -13,6 +13,7 @@ use Rattle.mj_classes.specs.Tables.{IsTable}
 use Rattle.mj_classes.proofs.Tables.{is_table}
 use Rattle.mj_rules.specs.FaultLists.{fault, each_numbered, nearest_sig, override_faults, method_faults_of}
 use Rattle.mj_tree.specs.declared.place.Place.TheVariants as places
+use Rattle.mj_tree.proofs.Positions.{find-map}
 use Rattle.mj_answer.specs.declared.code.Code.TheVariants.{E204}
 use Rattle.mj_answer.specs.Order.{NameBefore, IsAscendingByName}
 use Rattle.mj_answer.proofs.Compared.{ascends}
@@ -50,37 +51,28 @@ finds_one {A} p (y ∷ xs) (suc i) x e t f = finds_one p xs i x e t (behind (p y
     behind true g = absurd (none-some y (sym g))
     behind false g = g
 
-nearest_named : (ks : List ClassDecl) (x owner : Name) (m : Method) → nearest (own_method x) ks ≡ Some (owner, m) → m.name ≡ x
-nearest_named [] x owner m e = absurd (none-some (owner, m) e)
-nearest_named (k ∷ ks) x owner m e = by_own (own_method x k) refl (nearest_named ks x owner m) e
-  where
-    by_own : (o : Option Method) → own_method x k ≡ o → (nearest (own_method x) ks ≡ Some (owner, m) → m.name ≡ x) → or_farther k.name o (nearest (own_method x) ks) ≡ Some (owner, m) → m.name ≡ x
-    by_own None h behind f = behind f
-    by_own (Some a) h behind f =
-        found_name (λ (g : Method). g.name) x k.methods m (h ∙ ap (λ (p : Name × Method). Some p.1) (same_Some (k.name, a) (owner, m) f))
+-- Fields or methods: the one of a name in a table of some classes is the nearest of that name.
+module _ {A : Type 0} (name : A → Name) (own : Name → ClassDecl → Option A) (named : (x : Name) (k : ClassDecl) (a : A) → own x k ≡ Some a → name a ≡ x) where
+  nearest_named : (ks : List ClassDecl) (x owner : Name) (a : A) → nearest (own x) ks ≡ Some (owner, a) → name a ≡ x
+  nearest_named [] x owner a e = absurd (none-some (owner, a) e)
+  nearest_named (k ∷ ks) x owner a e = by_own (own x k) refl (nearest_named ks x owner a) e
+    where
+      by_own : (o : Option A) → own x k ≡ o → (nearest (own x) ks ≡ Some (owner, a) → name a ≡ x) → or_farther k.name o (nearest (own x) ks) ≡ Some (owner, a) → name a ≡ x
+      by_own None h farther f = farther f
+      by_own (Some b) h farther f = named x k a (h ∙ ap (λ (p : Name × A). Some p.1) (same_Some (k.name, b) (owner, a) f))
 
--- the row of a name, or none, in a table of these classes
-rows_by : (ks : List ClassDecl) (x : Name) (found : Option (Name × Method)) (near : Option (Name × Method)) → find (λ (r : Name × Method). bytes_eq r.1.name x) (methods_along ks) ≡ found
-    → nearest (own_method x) ks ≡ near → found ≡ near
-rows_by ks x None None f n = refl
-rows_by ks x (Some r) near f n =
-    let w = found_stands (λ (q : Name × Method). bytes_eq q.1.name x) (methods_along ks) r f in
-    let named = (bytes_eq-Decides r.1.name x).0 w.1 in
-    sym (subst (λ (y : Name). nearest (own_method y) ks ≡ Some r) named (((along_is_table ks).members r.0 r.1).0 w.0)) ∙ n
-rows_by ks x None (Some near) f n =
-    let named = nearest_named ks x near.0 near.1 n in
-    let stands = ((along_is_table ks).members near.0 near.1).1 (subst (λ (y : Name). nearest (own_method y) ks ≡ Some near) (sym named) n) in
-    let p = place_of (methods_along ks) near stands in
-    absurd (finds_one (λ (q : Name × Method). bytes_eq q.1.name x) (methods_along ks) p.0 near p.1 ((bytes_eq-Decides near.1.name x).1 named) f)
-
-find_rows : (x : Name) (rows : List (Name × Method)) → find (λ (r : MethodRowValue). bytes_eq r.name x) (map method_row rows) ≡ option_map method_row (find (λ (r : Name × Method). bytes_eq r.1.name x) rows)
-find_rows x [] = refl
-find_rows x (r ∷ rows) = by_test (bytes_eq r.1.name x) (find_rows x rows)
-  where
-    by_test : (t : Bool) → find (λ (q : MethodRowValue). bytes_eq q.name x) (map method_row rows) ≡ option_map method_row (find (λ (q : Name × Method). bytes_eq q.1.name x) rows)
-        → cond t (Some (method_row r)) (find (λ (q : MethodRowValue). bytes_eq q.name x) (map method_row rows)) ≡ option_map method_row (cond t (Some r) (find (λ (q : Name × Method). bytes_eq q.1.name x) rows))
-    by_test true h = refl
-    by_test false h = h
+  pub row_is_nearest : (rows : List (Name × A)) (ks : List ClassDecl) → IsTable name (λ owner a. nearest (own (name a)) ks ≡ Some (owner, a)) rows
+      → (x : Name) (found near : Option (Name × A)) → find (λ (r : Name × A). bytes_eq (name r.1) x) rows ≡ found → nearest (own x) ks ≡ near → found ≡ near
+  row_is_nearest rows ks is x None None f n = refl
+  row_is_nearest rows ks is x (Some r) near f n =
+      let w = found_stands (λ (q : Name × A). bytes_eq (name q.1) x) rows r f in
+      let same = (bytes_eq-Decides (name r.1) x).0 w.1 in
+      sym (subst (λ (y : Name). nearest (own y) ks ≡ Some r) same ((is.members r.0 r.1).0 w.0)) ∙ n
+  row_is_nearest rows ks is x None (Some near) f n =
+      let same = nearest_named ks x near.0 near.1 n in
+      let stands = (is.members near.0 near.1).1 (subst (λ (y : Name). nearest (own y) ks ≡ Some near) (sym same) n) in
+      let p = place_of rows near stands in
+      absurd (finds_one (λ (q : Name × A). bytes_eq (name q.1) x) rows p.0 near p.1 ((bytes_eq-Decides (name near.1) x).1 same) f)
 
 sig_of_rows : (o : Option (Name × Method)) → option_map row_sig (option_map method_row o) ≡ option_map (λ (f : Name × Method). sig_of f.1) o
 sig_of_rows None = refl
@@ -89,7 +81,8 @@ sig_of_rows (Some f) = refl
 -- the types found in the rows are those of the nearest method
 pub sig_in-rows : (ks : List ClassDecl) (x : Name) → sig_in (map method_row (methods_along ks)) x ≡ nearest_sig ks x
 sig_in-rows ks x =
-    ap (option_map row_sig) (find_rows x (methods_along ks) ∙ ap (option_map method_row) (rows_by ks x (find (λ (r : Name × Method). bytes_eq r.1.name x) (methods_along ks)) (nearest (own_method x) ks) refl refl))
+    let found = row_is_nearest (λ (m : Method). m.name) own_method (λ x k m e. found_name (λ (m : Method). m.name) x k.methods m e) (methods_along ks) ks (along_is_table ks) x (find (λ (r : Name × Method). bytes_eq r.1.name x) (methods_along ks)) (nearest (own_method x) ks) refl refl in
+    ap (option_map row_sig) (find-map method_row (λ (r : MethodRowValue). bytes_eq r.name x) (methods_along ks) ∙ ap (option_map method_row) found)
     ∙ sig_of_rows (nearest (own_method x) ks)
 
 -- numbered diagnostics by equal functions

@@ -7,10 +7,9 @@ use Rattle.std.proofs.lemmas.Bool.Decides.{nat_tests}
 use Rattle.mj_answer.specs.declared.diagnostic.Diagnostic.{Diagnostic}
 use Rattle.mj_answer.specs.Codes.{code_number}
 use Rattle.mj_answer.specs.Order.{IsAscendingBy, IsStrictTotalOrder, NameBefore, Before, place_order, name_in, number_in}
-use Rattle.mj_answer.proofs.Alike.{Contains-cases, Contains-first, Contains-later}
+use Rattle.mj_answer.proofs.Alike.{Contains-cases, Contains-first, Contains-later, nowhere}
 use Rattle.mj_answer.proofs.Orders.{names, faults}
 use Rattle.mj_rules.specs.Answering.{with_element, set_of, name_order, fault_order}
-use Rattle.mj_rules.proofs.Numbered.{nowhere}
 
 -- what a comparison tells
 pub record Compares {X : Type 0} (compare : X → X → Ordering) (B : X → X → Type 0) : Type 0 where

@@ -1,19 +1,20 @@
 -- Steps of the loops that collect diagnostics.
-use Rattle.std.proofs.Common.{◌≡◌, ℕ, zero, suc, ◌+◌, ◌<◌, ◌≤◌, Bool, true, false, not, ◌&&◌, ◌||◌, List, [], ◌∷◌, ◌++◌, length, get_or, drop, slice_get, Option, Some, None, option_map, refl, sym, ap, ap₂, ◌∙◌, arith, append_assoc, append-nil, ◌⊎◌, inl, inr, if◌then◌else◌, String, Vec}
+use Rattle.std.proofs.Common.{◌≡◌, ℕ, zero, suc, ◌+◌, ◌<◌, ◌≤◌, Bool, true, false, not, ◌&&◌, ◌||◌, List, [], ◌∷◌, ◌++◌, length, map, get_or, drop, slice_get, Option, Some, None, option_map, refl, sym, ap, ap₂, ◌∙◌, arith, append_assoc, append-nil, ◌⊎◌, inl, inr, String, Vec}
 use Rattle.std.proofs.Math.Bool.{or_assoc}
 use Rattle.std.specs.declared.alloc.Global.{Global}
-use Rattle.std.proofs.lemmas.List.{length-map}
-use Rattle.std.proofs.lemmas.Option.{none-some, same_Some, slice_get-get_or, slice_get_read, get_or_from_slice_get}
+use Rattle.std.proofs.lemmas.List.{length-map, drop_all}
+use Rattle.std.proofs.lemmas.Option.{none-some, same_Some, slice_get-get_or, get_or_from_slice_get}
 use Rattle.mj_tree.specs.declared.tree.FileTree.{FileTree}
 use Rattle.mj_tree.specs.declared.tree.Ty.{Ty}
 use Rattle.mj_tree.specs.declared.tree.Variable.{Variable}
 use Rattle.mj_tree.specs.Views.{file_view}
 use Rattle.mj_members.specs.Classes.{tree_view, class_ref_view}
 use Rattle.mj_classes.specs.Classes.{files_view}
-use Rattle.mj_members.specs.declared.class.Tree.{Tree}
-use Rattle.mj_members.specs.declared.class.Tree.TheVariants.{Main, Plain}
+use Rattle.mj_members.specs.declared.class.AnyClassTree.{AnyClassTree}
+use Rattle.mj_members.specs.declared.class.AnyClassTree.TheVariants.{Main, Plain}
 use Rattle.mj_members.specs.declared.class.ClassRef.{ClassRef}
 use Rattle.mj_tree.specs.declared.place.Place.TheVariants.{Project, ClassOf}
+use Rattle.mj_tree.proofs.Positions.{read_at}
 use Rattle.mj_answer.specs.declared.code.Code.TheVariants.{E102, E104}
 use Rattle.mj_answer.specs.declared.diagnostic.Diagnostic.{Diagnostic}
 use Rattle.mj_project.specs.Projects.{SourceFile, source_view, sources_view}
@@ -31,12 +32,6 @@ drop_at (y ∷ xs) (suc n) x e =
     let later : suc n + 1 ≡ suc (n + 1) = omega arith in
     drop_at xs n x e ∙ ap (λ k. x ∷ drop k (y ∷ xs)) (sym later)
 
-pub drop_end : {X : Type 0} (xs : List X) (n : ℕ) → length xs ≤ n → drop n xs ≡ []
-drop_end [] zero h = refl
-drop_end [] (suc n) h = refl
-drop_end (x ∷ xs) zero h = absurd (omega arith)
-drop_end (x ∷ xs) (suc n) h = drop_end xs n (omega arith)
-
 -- one more of a numbered list
 pub each_step : {X : Type 0} (faults : ℕ → Bool → X → List Diagnostic) (xs : List X) (flags : List Bool) (n : ℕ) (x : X) (flag : Bool) (old new : List Diagnostic)
     → slice_get xs n ≡ Some x → slice_get flags n ≡ Some flag → new ≡ old ++ faults n flag x
@@ -49,7 +44,7 @@ each_step faults xs flags n x flag old new ex ef e =
 -- the end of the list
 pub each_end : {X : Type 0} (faults : ℕ → Bool → X → List Diagnostic) (xs : List X) (flags : List Bool) (n : ℕ) (old : List Diagnostic) → length xs ≤ n
     → old ++ each_numbered faults n (drop n xs) (drop n flags) ≡ old
-each_end faults xs flags n old h = ap (λ ys. old ++ each_numbered faults n ys (drop n flags)) (drop_end xs n h) ∙ append-nil old
+each_end faults xs flags n old h = ap (λ ys. old ++ each_numbered faults n ys (drop n flags)) (drop_all n xs h) ∙ append-nil old
 
 -- one more file
 pub files_step : (files : List SourceFile) (before : Bool) (n : ℕ) (f : SourceFile) (old new : List Diagnostic) → slice_get files n ≡ Some f → new ≡ old ++ file_faults before f.name (file_of f.bytes)
@@ -60,7 +55,7 @@ files_step files before n f old new ef e =
     ∙ ap (λ fs. old ++ files_faults before fs) (sym (drop_at files n f ef)))
 
 pub files_end : (files : List SourceFile) (before : Bool) (n : ℕ) (old : List Diagnostic) → length files ≤ n → old ++ files_faults before (drop n files) ≡ old
-files_end files before n old h = ap (λ fs. old ++ files_faults before fs) (drop_end files n h) ∙ append-nil old
+files_end files before n old h = ap (λ fs. old ++ files_faults before fs) (drop_all n files h) ∙ append-nil old
 
 -- the flag at a place
 pub flag_read : (spec flags : List Bool) (n : ℕ) (d : Bool) → flags ≡ spec → n < length flags → slice_get spec n ≡ Some (get_or flags n d)
@@ -70,8 +65,26 @@ flag_read spec flags n d e within = ap (λ fs. slice_get fs n) (sym e) ∙ slice
 pub flag_within : (names : List (List ℕ)) (flags : List Bool) (n : ℕ) → flags ≡ repeats names → n < length names → n < length flags
 flag_within names flags n e within = let same = ap length e ∙ length-repeats names in omega (arith, same)
 
-pub item_at : {X : Type 0} (xs : List X) (n : ℕ) (x : X) → n < length xs → x ≡ get_or xs n x → slice_get xs n ≡ Some x
-item_at xs n x within is = slice_get_read xs (length xs) n x refl within is
+-- what is added where the flag has this value
+pub flag_is : (faults : Bool → List Diagnostic) (old new : List Diagnostic) (flag b : Bool) → flag ≡ b → new ≡ old ++ faults b → new ≡ old ++ faults flag
+flag_is faults old new flag b e h = h ∙ ap (λ f. old ++ faults f) (sym e)
+
+-- of things that have names each has a flag
+pub flag_of_each : {X Y : Type 0} (view : X → Y) (name : Y → List ℕ) (xs : List X) (flags : List Bool) (n : ℕ) → flags ≡ repeats (map name (map view xs)) → n < length xs → n < length flags
+flag_of_each view name xs flags n e within =
+    let views = length-map xs view in
+    let same = length-map (map view xs) name in
+    flag_within (map name (map view xs)) flags n e (omega (arith, views, same, within))
+
+-- one more of a numbered list of things that have names
+pub named_step : {X Y : Type 0} (view : X → Y) (name : Y → List ℕ) (faults : ℕ → Bool → Y → List Diagnostic) (xs : List X) (flags : List Bool) (n : ℕ) (x : X) (old new : List Diagnostic)
+    → flags ≡ repeats (map name (map view xs)) → n < length xs → x ≡ get_or xs n x → new ≡ old ++ faults n (get_or flags n false) (view x)
+    → new ++ each_numbered faults (n + 1) (drop (n + 1) (map view xs)) (drop (n + 1) (repeats (map name (map view xs)))) ≡ old ++ each_numbered faults n (drop n (map view xs)) (drop n (repeats (map name (map view xs))))
+named_step view name faults xs flags n x old new e within is added =
+    each_step faults (map view xs) (repeats (map name (map view xs))) n (view x) (get_or flags n false) old new
+    (map_at view xs n x (read_at xs n x within is))
+    (flag_read (repeats (map name (map view xs))) flags n false e (flag_of_each view name xs flags n e within))
+    added
 
 -- the tree of a file
 pub tree_at : (files : List SourceFile) (trees : List (Option FileTree)) (n : ℕ) (f : SourceFile) (t : Option FileTree) → files_view trees ≡ trees_of files → slice_get files n ≡ Some f → t ≡ get_or trees n t
@@ -93,19 +106,19 @@ tree_within files trees n same within =
 pub any_step : (files : List SourceFile) (before : Bool) (n : ℕ) (f : SourceFile) → slice_get files n ≡ Some f → (before || has_main (file_of f.bytes) || any_main (drop (n + 1) files)) ≡ (before || any_main (drop n files))
 any_step files before n f ef = or_assoc before (has_main (file_of f.bytes)) (any_main (drop (n + 1) files)) ∙ ap (λ fs. before || any_main fs) (sym (drop_at files n f ef))
 
-or_false : (b : Bool) → (b || false) ≡ b
+pub or_false : (b : Bool) → (b || false) ≡ b
 or_false true = refl
 or_false false = refl
 
 pub any_end : (files : List SourceFile) (before : Bool) (n : ℕ) → length files ≤ n → (before || any_main (drop n files)) ≡ before
-any_end files before n h = ap (λ fs. before || any_main fs) (drop_end files n h) ∙ or_false before
+any_end files before n h = ap (λ fs. before || any_main fs) (drop_all n files h) ∙ or_false before
 
 -- the number and the file of a class are those of its reference
-number_in : (file number : ℕ) (t : Tree) → (tree_view file number t).number ≡ number
+number_in : (file number : ℕ) (t : AnyClassTree) → (tree_view file number t).number ≡ number
 number_in file number (Main m) = refl
 number_in file number (Plain c) = refl
 
-file_in : (file number : ℕ) (t : Tree) → (tree_view file number t).file ≡ file
+file_in : (file number : ℕ) (t : AnyClassTree) → (tree_view file number t).file ≡ file
 file_in file number (Main m) = refl
 file_in file number (Plain c) = refl
 
@@ -128,15 +141,11 @@ differ (v ∷ vs) (t ∷ ts) no_way = both (same_type v.ty t) (differ vs ts (λ 
 
 -- ---- diagnostics of repeated classes
 
-pub none_added : (old : List Diagnostic) (repeated : Bool) (o : Option SourceFile) (n : ℕ) → (repeated ≡ false) ⊎ (o ≡ None) → old ≡ old ++ (if repeated then repeated_class o n else [])
-none_added old repeated o n (inl e) = sym (ap (λ b. old ++ (if b then repeated_class o n else [])) e ∙ append-nil old)
-none_added old true o n (inr e) = sym (ap (λ p. old ++ repeated_class p n) e ∙ append-nil old)
-none_added old false o n (inr e) = sym (append-nil old)
+pub none_added : (old : List Diagnostic) (o : Option SourceFile) (n : ℕ) → o ≡ None → old ≡ old ++ repeated_class o n
+none_added old o n e = sym (ap (λ p. old ++ repeated_class p n) e ∙ append-nil old)
 
-pub one_added : (old new : List Diagnostic) (name : List ℕ) (n : ℕ) (repeated : Bool) (o : Option SourceFile) (f : SourceFile) → new ≡ old ++ fault (ClassOf name n) E104 ∷ [] → repeated ≡ true → o ≡ Some f → name ≡ f.name
-    → new ≡ old ++ (if repeated then repeated_class o n else [])
-one_added old new name n repeated o f e set there same =
-    e ∙ (ap (λ m. old ++ fault (ClassOf m n) E104 ∷ []) same ∙ sym (ap₂ (λ b p. old ++ (if b then repeated_class p n else [])) set there))
+pub one_added : (old new : List Diagnostic) (name : List ℕ) (n : ℕ) (o : Option SourceFile) (f : SourceFile) → new ≡ old ++ fault (ClassOf name n) E104 ∷ [] → o ≡ Some f → name ≡ f.name → new ≡ old ++ repeated_class o n
+one_added old new name n o f e there same = e ∙ (ap (λ m. old ++ fault (ClassOf m n) E104 ∷ []) same ∙ sym (ap (λ p. old ++ repeated_class p n) there))
 
 -- ---- joining the parts
 

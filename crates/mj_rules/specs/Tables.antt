@@ -23,9 +23,9 @@ method_row found = record {
 }
 
 -- these classes without the first, where that has this name
-abbrev pub behind : Name → List ClassDecl → List ClassDecl
-behind c [] = []
-behind c (k ∷ ks) = if bytes_eq k.name c then ks else k ∷ ks
+abbrev pub without_first : Name → List ClassDecl → List ClassDecl
+without_first c [] = []
+without_first c (k ∷ ks) = if bytes_eq k.name c then ks else k ∷ ks
 
 -- the table of a class that has these classes for its chain
 abbrev pub table_along : List ClassDecl → ClassTableValue

@@ -11,7 +11,7 @@ ghost use Rattle.mj_rules.specs.FaultLists.{each_numbered, inside, body_faults_o
 use crate::declaration_faults::repeated_methods;
 use crate::world::World;
 use mj_answer::Diagnostic;
-use mj_classes::{ClassRef, Declarations, Tree};
+use mj_classes::{AnyClassTree, ClassRef, Declarations};
 use mj_lexer::Name;
 use mj_phrases::Mistake;
 use mj_tree::{MethodTree, Place};
@@ -98,12 +98,12 @@ fn add_main(
         (class_ref_view class.now) (class_ref_view class.now).main) }
 {
     match class.tree {
-        Tree::Main(main) => {
+        AnyClassTree::Main(main) => {
             let name = Name::new(alloc, "main")?;
             let mistakes = main_mistakes(alloc, world, main)?;
             add_inside(alloc, faults, &name, &mistakes)
         }
-        Tree::Plain(_) => Ok(()),
+        AnyClassTree::Plain(_) => Ok(()),
     }
 }
 

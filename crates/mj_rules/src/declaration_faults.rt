@@ -1,5 +1,5 @@
 //! The diagnostics of the declarations of a class.
-ghost use Rattle.std.specs.Prelude.{◌≡◌, ◌++◌, map, filter, Some, IfOk, OnOk, is_some, option_map, option_copied};
+ghost use Rattle.std.specs.Prelude.{◌≡◌, ◌++◌, map, filter, Some, IfOk, OnOk, is_some, option_map};
 ghost use Rattle.mj_tree.specs.Views.{method_view};
 ghost use Rattle.mj_answer.specs.Order.{IsAscendingByName};
 ghost use Rattle.mj_members.specs.Declarations.{has_members};
@@ -9,7 +9,7 @@ ghost use Rattle.mj_members.specs.Classes.{class_ref_view, classes_view};
 ghost use Rattle.mj_classes.specs.Classes.{end_view};
 ghost use Rattle.mj_classes.specs.Index.{declared_in};
 ghost use Rattle.mj_project.specs.Repeats.{repeats};
-ghost use Rattle.mj_rules.specs.Tables.{row_sig, sig_in, behind};
+ghost use Rattle.mj_rules.specs.Tables.{sig_in, without_first};
 ghost use Rattle.mj_rules.specs.FaultLists.{when_fault, each_numbered, superclass_faults, is_cycle, is_undeclared, field_faults, same_type, same_types, same_signature, accepts, may_override, override_faults, method_faults_of, nearest_sig, declaration_faults};
 ghost use Rattle.mj_tree.specs.declared.place.Place.TheVariants as places;
 ghost use Rattle.mj_answer.specs.declared.code.Code.TheVariants.{E202};
@@ -77,7 +77,7 @@ pub fn add_chain_fault(faults: &mut Vec<Diagnostic>, end: &End) -> Result<(), Al
 }
 
 /// For each field, whether its name stands before it.
-fn repeated_fields(alloc: Global, fields: &[Field]) -> Result<Vec<bool>, AllocError>
+pub fn repeated_fields(alloc: Global, fields: &[Field]) -> Result<Vec<bool>, AllocError>
     ensures { IfOk result (λ flags. flags.items ≡ repeats (map (λ f. f.name) fields.now)) }
 {
     let mut names = Vec::new(alloc);
@@ -148,7 +148,8 @@ pub fn add_fields(
     Ok(())
 }
 
-fn same_type(ty: &Ty, other: &Ty) -> bool
+/// Whether a type is the same as another.
+pub fn same_type(ty: &Ty, other: &Ty) -> bool
     ensures { result ≡ same_type ty.now other.now }
 {
     ty == other
@@ -213,22 +214,23 @@ fn may_override(
     }
 }
 
-/// Adds what is wrong with a method that overrides another or none.
+/// Adds the diagnostic of a method that may not override the one of its name in the rest of its class's chain.
 fn add_override(
     profile: Profile,
     faults: &mut Vec<Diagnostic>,
     declarations: &Declarations,
+    rest: &[MethodRow],
     number: usize,
     method: &MethodTree,
-    other: Option<&MethodRow>,
 ) -> Result<(), AllocError>
+    requires { IsAscendingByName (λ row. row.name) rest.now }
     ensures { OnOk result
         (faults.new.items
         ≡ faults.old.items
         ++ override_faults profile (declared_in declarations.now) number
-        (method_view method.now) (option_map row_sig (option_copied other.entry))) }
+        (method_view method.now) (sig_in rest.now (method_view method.now).name)) }
 {
-    if let Some(other) = other {
+    if let Some(other) = find_by_name(rest, &method.name) {
         if !may_override(profile, declarations, method, other) {
             faults.push(Diagnostic {
                 place: Place::Method(number),
@@ -237,35 +239,6 @@ fn add_override(
         }
     }
     Ok(())
-}
-
-/// Adds what is wrong with a method; these are the methods of the rest of its class's chain.
-fn add_method(
-    profile: Profile,
-    faults: &mut Vec<Diagnostic>,
-    declarations: &Declarations,
-    rest: &[MethodRow],
-    number: usize,
-    repeated: bool,
-    method: &MethodTree,
-) -> Result<(), AllocError>
-    requires { IsAscendingByName (λ row. row.name) rest.now }
-    ensures { OnOk result
-        (faults.new.items
-        ≡ faults.old.items
-        ++ method_faults_of profile (declared_in declarations.now) (sig_in rest.now) number
-        repeated (method_view method.now)) }
-{
-    if repeated {
-        faults.push(Diagnostic {
-            place: Place::Method(number),
-            code: Code::E204,
-        })?;
-        Ok(())
-    } else {
-        let other = find_by_name(rest, &method.name);
-        add_override(profile, faults, declarations, number, method, other)
-    }
 }
 
 /// Adds what is wrong with the methods of a class; these are the methods of the rest of its chain.
@@ -289,22 +262,21 @@ pub fn add_methods(
     let repeated = repeated_methods(alloc, methods)?;
     let flags = repeated.as_slice();
     for (number, method) in methods.iter().enumerate() {
-        add_method(
-            profile,
-            faults,
-            declarations,
-            rest,
-            number,
-            flags[number],
-            method,
-        )?;
+        if flags[number] {
+            faults.push(Diagnostic {
+                place: Place::Method(number),
+                code: Code::E204,
+            })?;
+        } else {
+            add_override(profile, faults, declarations, rest, number, method)?;
+        }
     }
     Ok(())
 }
 
 /// These classes without the first, where that has this name.
-fn behind<'a, 'b>(name: &Name, classes: &'b [ClassRef<'a>]) -> &'b [ClassRef<'a>]
-    ensures { classes_view result.now ≡ behind name.now (classes_view classes.now) }
+fn without_first<'a, 'b>(name: &Name, classes: &'b [ClassRef<'a>]) -> &'b [ClassRef<'a>]
+    ensures { classes_view result.now ≡ without_first name.now (classes_view classes.now) }
 {
     match classes.first() {
         Some(class) if class.name() == name => &classes[1..],
@@ -327,14 +299,14 @@ fn add_method_faults(
         ≡ faults.old.items
         ++ each_numbered
         (method_faults_of profile (declared_in declarations.now)
-        (nearest_sig (behind name.now (classes_view classes.now)))) 0
+        (nearest_sig (without_first name.now (classes_view classes.now)))) 0
         (map method_view methods.now)
         (repeats (map (λ m. m.name) (map method_view methods.now)))) }
 {
     if methods.is_empty() {
         return Ok(());
     }
-    let rest = method_rows(alloc, behind(name, classes))?;
+    let rest = method_rows(alloc, without_first(name, classes))?;
     add_methods(alloc, profile, faults, declarations, &rest, methods)
 }
 

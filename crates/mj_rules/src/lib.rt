@@ -11,6 +11,7 @@ mod tables;
 mod world;
 
 pub use checker::{answer_for, answer_for_as, scratch, scratch_as};
+pub use declaration_faults::{repeated_fields, same_type};
 pub use laws::{answer_laws, class_fault_laws, project_fault_laws, sentence_laws, world_laws};
 pub use mj_answer::{
     Answer, ClassAnswer, ClassTable, Code, Diagnostic, FieldRow, MethodRow, render,
@@ -18,3 +19,4 @@ pub use mj_answer::{
 pub use mj_project::{Project, ProjectFault};
 pub use profiles::Profile;
 pub use reading::read_file;
+pub use tables::field_row;

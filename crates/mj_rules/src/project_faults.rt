@@ -71,23 +71,21 @@ pub fn add_file_faults(
     Ok(main_before)
 }
 
-/// Adds the diagnostic of a class, given by its file and its number there, if an earlier class has its name.
+/// Adds the diagnostic of a class whose name an earlier class has, given by its file and its number there.
 fn add_repeated_class(
     alloc: Global,
     faults: &mut Vec<Diagnostic>,
     files: &[(String, Vec<u8>)],
     file: usize,
     number: usize,
-    repeated: bool,
 ) -> Result<(), AllocError>
     requires { All IsFileName (names_of (sources_view files.now)) }
     ensures { OnOk result
         (faults.new.items
         ≡ faults.old.items
-        ++ (if repeated then repeated_class (slice_get (sources_view files.now) file)
-        number else [])) }
+        ++ repeated_class (slice_get (sources_view files.now) file) number) }
 {
-    if !repeated || file >= files.len() {
+    if file >= files.len() {
         return Ok(());
     }
     let (name, _) = &files[file];
@@ -129,14 +127,9 @@ pub fn add_repeated_classes(
     let repeated = repeated_classes(alloc, classes)?;
     let flags = repeated.as_slice();
     for (number, class) in classes.iter().enumerate() {
-        add_repeated_class(
-            alloc,
-            faults,
-            files,
-            class.file,
-            class.number,
-            flags[number],
-        )?;
+        if flags[number] {
+            add_repeated_class(alloc, faults, files, class.file, class.number)?;
+        }
     }
     Ok(())
 }

@@ -20,7 +20,8 @@ pub fn formal_types(alloc: Global, formals: &[Variable]) -> Result<Vec<Ty>, Allo
     Ok(types)
 }
 
-fn field_row(alloc: Global, member: &FieldMember) -> Result<FieldRow, AllocError>
+/// The row of a field.
+pub fn field_row(alloc: Global, member: &FieldMember) -> Result<FieldRow, AllocError>
     ensures { IfOk result (λ row. row ≡ field_row (field_member_view member.now)) }
 {
     Ok(FieldRow {

@@ -3,28 +3,9 @@
 use crate::tables::formal_types;
 use mj_classes::Declarations;
 use mj_lexer::Name;
-use mj_phrases::Signature;
+use mj_phrases::MethodTypes;
 use mj_tree::Ty;
 use std::alloc::{AllocError, Global};
-
-/// The types of a method.
-#[derive(Drop)]
-pub struct MethodTypes {
-    formals: Vec<Ty>,
-    returns: Ty,
-}
-
-impl Signature for MethodTypes {
-    ghost sig = { λ types. record { formals = types.formals.items; returns = types.returns } };
-
-    fn formals(&self) -> &[Ty] {
-        self.formals.as_slice()
-    }
-
-    fn returns(&self) -> &Ty {
-        &self.returns
-    }
-}
 
 /// What the declarations of a project say.
 #[derive(Clone, Copy)]

@@ -5,8 +5,9 @@ use Rattle.std.specs.Str.{bytes_eq}
 use Rattle.std.specs.Ordering.{nat_cmp, is_eq}
 use Rattle.std.specs.Cmp.Lexicographic.{slice_cmp}
 use Rattle.std.proofs.lemmas.List.{take_more, map-append, length-map, length-take-le}
+use Rattle.std.proofs.lemmas.Map.Text.{is_eq-slice_cmp}
 use Rattle.mj_tree.specs.Trees.{Name}
-use Rattle.mj_tree.proofs.Positions.{names_tie, same_name, position_added, position_kept}
+use Rattle.mj_tree.proofs.Positions.{same_name, position_added, position_kept, none_of}
 
 -- the place of the first of a name
 abbrev pub named_at : {X Y : Type 0} → (X → Y) → (Y → Name) → List X → Name → Option ℕ
@@ -38,17 +39,13 @@ pub index_added : {X Y : Type 0} (view : X → Y) (name : Y → Name) (xs : List
     → ((q : Name) → after q ≡ cond (is_eq (slice_cmp nat_cmp (name (view x)) q)) (Some n) (found q)) → (q : Name) → after q ≡ named_at view name (take (n + 1) xs) q
 index_added {X} {Y} view name xs n x found after lt is so_far new puts q =
     let all = more view xs n x lt is in
-    rw all (puts q ∙ (ap (λ b. cond b (Some n) (found q)) (names_tie (name (view x)) q) ∙ by (bytes_eq (name (view x)) q) refl))
+    rw all (puts q ∙ (ap (λ b. cond b (Some n) (found q)) (is_eq-slice_cmp (name (view x)) q) ∙ by (bytes_eq (name (view x)) q) refl))
   where
     count : length (map view (take n xs)) ≡ n
     count = let short = length-take-le n xs (omega arith) in length-map (take n xs) view ∙ short
 
     nothing : found (name (view x)) ≡ None
     nothing = none_of (found (name (view x))) new
-      where
-        none_of : (o : Option ℕ) → is_some o ≡ false → o ≡ None
-        none_of None e = refl
-        none_of (Some i) e = absurd cc
 
     by : (b : Bool) → bytes_eq (name (view x)) q ≡ b → cond b (Some n) (found q) ≡ position (λ y. bytes_eq (name y) q) (map view (take n xs) ++ view x ∷ [])
     by true t =

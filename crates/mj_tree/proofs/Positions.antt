@@ -1,36 +1,50 @@
 -- The first place in a list at which a test passes, and tests of names.
-use Rattle.std.proofs.Common.{◌≡◌, ℕ, zero, suc, ◌+◌, ◌<◌, ◌≤◌, Bool, true, false, List, [], ◌∷◌, ◌++◌, length, map, Option, Some, None, refl, sym, ap, ◌∙◌, subst, arith, inl, inr, cond, get_or, length-append}
-use Rattle.std.specs.Prelude.{not, find, position, nat_lt, nat_eq, slice_get, option_map, option_and_then}
+use Rattle.std.proofs.Common.{◌≡◌, ℕ, zero, suc, ◌+◌, ◌<◌, ◌≤◌, Bool, true, false, List, [], ◌∷◌, ◌++◌, length, map, Option, Some, None, refl, sym, ap, ◌∙◌, arith, inl, inr, cond, get_or, length-append, true≢false}
+use Rattle.std.specs.Prelude.{not, is_some, find, position, nat_lt, nat_eq, slice_get, option_map, option_and_then}
 use Rattle.std.specs.List.{position_or_len}
+use Rattle.std.specs.Option.{option_or}
 use Rattle.std.specs.Str.{bytes_eq}
-use Rattle.std.specs.Ordering.{nat_cmp, eq_by_cmp, is_eq}
+use Rattle.std.specs.Ordering.{nat_cmp, is_eq}
 use Rattle.std.specs.Cmp.Lexicographic.{slice_cmp}
 use Rattle.std.proofs.lemmas.Bool.{cases_lt, false≢true}
 use Rattle.std.proofs.lemmas.Bool.Decides.{Decides-ltb, Decides-eqb, same_from_decides}
-use Rattle.std.proofs.lemmas.Cmp.{tied_itself, nat_list_cmp_total}
 use Rattle.std.proofs.lemmas.List.{length-map}
 use Rattle.std.proofs.lemmas.List.Folds.{find_at, position_or_len_push}
 use Rattle.std.proofs.lemmas.List.Quantifiers.{position-Some}
 use Rattle.std.proofs.lemmas.List.Sums.{prefix_len-le-length}
-use Rattle.std.proofs.lemmas.Map.Lookups.{exact_bytes}
-use Rattle.std.proofs.lemmas.Map.Views.{tells_apart}
+use Rattle.std.proofs.lemmas.Map.Text.{is_eq-slice_cmp}
 use Rattle.std.proofs.lemmas.Option.{slice_get_past, slice_get-map, slice_get_read}
 use Rattle.std.proofs.lemmas.Slice.Eq.{bytes_eq-Decides}
 use Rattle.mj_tree.specs.Trees.{Name}
 
 -- ---- tests of names
 
--- the order of names finds equal what the test of bytes does
-pub names_tie : (m n : Name) → is_eq (slice_cmp nat_cmp m n) ≡ bytes_eq m n
-names_tie m n = same_from_decides {P = m ≡ n} (eq_by_cmp (slice_cmp nat_cmp) m n) (bytes_eq m n)
-    (λ e. tells_apart exact_bytes m n e, λ e. subst (λ (k : Name). eq_by_cmp (slice_cmp nat_cmp) m k ≡ true) e (ap is_eq (tied_itself nat_list_cmp_total m)))
-    (bytes_eq-Decides m n)
-
 pub same_name : (m n : Name) → bytes_eq m n ≡ true → m ≡ n
 same_name m n e = (bytes_eq-Decides m n).0 e
 
 pub bytes_eq_back : (m n : Name) → bytes_eq m n ≡ bytes_eq n m
 bytes_eq_back m n = same_from_decides {P = m ≡ n} (bytes_eq m n) (bytes_eq n m) (bytes_eq-Decides m n) (λ e. sym (same_name n m e), λ e. (bytes_eq-Decides n m).1 (sym e))
+
+-- ---- what stands under a name
+
+pub or_nothing : {X : Type 0} (o : Option X) → o ≡ option_or o None
+or_nothing None = refl
+or_nothing (Some x) = refl
+
+pub none_of : {X : Type 0} (o : Option X) → is_some o ≡ false → o ≡ None
+none_of None e = refl
+none_of (Some x) e = absurd (true≢false e)
+
+-- a new name, which is put in
+pub name_added : {X : Type 0} (found after : Name → Option X) (n : Name) (x : X) → is_some (found n) ≡ false
+    → ((q : Name) → after q ≡ cond (is_eq (slice_cmp nat_cmp n q)) (Some x) (found q)) → (q : Name) → after q ≡ option_or (found q) (cond (bytes_eq n q) (Some x) None)
+name_added found after n x new puts q = puts q ∙ (ap (λ b. cond b (Some x) (found q)) (is_eq-slice_cmp n q) ∙ by_test (bytes_eq n q) refl)
+  where
+    by_test : (b : Bool) → bytes_eq n q ≡ b → cond b (Some x) (found q) ≡ option_or (found q) (cond b (Some x) None)
+    by_test true t =
+        let nothing : found q ≡ None = ap found (sym (same_name n q t)) ∙ none_of (found n) new in
+        sym (ap (λ o. option_or o (Some x)) nothing)
+    by_test false t = or_nothing (found q)
 
 -- ---- the first place
 

@@ -8,5 +8,5 @@ mod tree;
 pub use place::Place;
 pub use tree::{
     ClassTree, Exp, Field, FileTree, MOST_LEVELS, MainTree, MethodTree, Operator, Stmt, Ty,
-    Variable, copy_types,
+    Variable, copy_fields, copy_types,
 };

@@ -52,6 +52,17 @@ pub fn copy_types(alloc: Global, types: &[Ty]) -> Result<Vec<Ty>, AllocError>
     Ok(copies)
 }
 
+/// Equal fields in the same order.
+pub fn copy_fields(alloc: Global, fields: &[Field]) -> Result<Vec<Field>, AllocError>
+    ensures { IfOk result (λ copies. copies.items ≡ fields.now) }
+{
+    let mut copies = Vec::new(alloc);
+    for field in fields {
+        copies.push(field.copy(alloc)?)?;
+    }
+    Ok(copies)
+}
+
 /// A binary operator.
 #[derive(Clone, Copy, Debug, PartialEq, Eq)]
 pub enum Operator {

@@ -8,13 +8,14 @@ use Rattle.mj_tree.specs.declared.tree.Ty.TheVariants as ty
 use Rattle.mj_tree.specs.declared.tree.Variable.{Variable}
 use Rattle.mj_answer.specs.declared.code.Code.{Code}
 use Rattle.mj_answer.specs.declared.code.Code.TheVariants.{E206, E207}
+use Rattle.mj_answer.proofs.Alike.{nowhere, Contains-first, Contains-later, Contains-cases}
 use Rattle.mj_phrases.specs.declared.verdict.Mistake.{Mistake}
 use Rattle.mj_phrases.specs.Types.{is_same}
 use Rattle.mj_phrases.specs.Inquiries.{World}
 use Rattle.mj_phrases.specs.Table.{method_phrases}
 use Rattle.mj_phrases.specs.Variables.{name_token, name_mark, has_name, variables_of, add_repeated, add_repeated_each}
 use Rattle.mj_phrases.proofs.Names.{same_from, from_same}
-use Rattle.mj_phrases.proofs.Agree.{nowhere, first, later, first_or_later, each_listed, each_kept, each_there}
+use Rattle.mj_phrases.proofs.Agree.{each_listed, each_kept, each_there}
 use Rattle.mj_typing.specs.Bodies.{MethodFault, UndeclaredReturn, UndeclaredVariable, RepeatedVariable, IllPhrase, return_type_mark, NamesFit, add_undeclared, add_undeclared_each, method_faults}
 
 abbrev mistake : ℕ → Code → Mistake
@@ -54,8 +55,8 @@ module _ (w : World) where
   each_undeclared_listed [] faults x h = inl h
   each_undeclared_listed (v ∷ vs) faults x h =
       elim (each_undeclared_listed vs (add_undeclared w faults v.mark v.ty) x h) [
-        | inl a ↦ elim (own_listed v.mark v.ty faults x a) [ inl b ↦ inl b | inr u ↦ inr (v, first v vs, u) ]
-        | inr u ↦ inr (u.0, later v vs u.0 u.1, u.2)
+        | inl a ↦ elim (own_listed v.mark v.ty faults x a) [ inl b ↦ inl b | inr u ↦ inr (v, Contains-first v vs, u) ]
+        | inr u ↦ inr (u.0, Contains-later v vs u.0 u.1, u.2)
       ]
 
   each_undeclared_kept : (vs : List Variable) (faults : List Mistake) (x : Mistake) → Contains faults x → Contains (add_undeclared_each w faults vs) x
@@ -65,7 +66,7 @@ module _ (w : World) where
   each_undeclared_there : (vs : List Variable) (faults : List Mistake) (v : Variable) (c : Name) → Contains vs v → v.ty ≡ ty.Class c → w.is_declared c ≡ false → Contains (add_undeclared_each w faults vs) (mistake v.mark E206)
   each_undeclared_there [] faults v c h e d = absurd (nowhere v h)
   each_undeclared_there (u ∷ us) faults v c h e d =
-      elim (first_or_later u us v h) [
+      elim (Contains-cases u us v h) [
         | inl is ↦ each_undeclared_kept us (add_undeclared w faults u.mark u.ty) (mistake v.mark E206)
             (subst (λ (y : Variable). Contains (add_undeclared w faults u.mark u.ty) (mistake y.mark E206)) is (own_there u.mark u.ty faults c (ap (λ (y : Variable). y.ty) is ∙ e) d))
         | inr l ↦ each_undeclared_there us (add_undeclared w faults u.mark u.ty) v c l e d
@@ -78,8 +79,8 @@ named_among [] x h = absurd cc
 named_among (v ∷ vs) x h = by_first (λ h. named_among vs x h) (is_same v.name x) refl h
   where
     by_first : (has_name vs x ≡ true → (u : Variable) × Contains vs u × (u.name ≡ x)) → (b : Bool) → is_same v.name x ≡ b → cond b true (has_name vs x) ≡ true → (u : Variable) × Contains (v ∷ vs) u × (u.name ≡ x)
-    by_first rest true e h = (v, first v vs, same_from v.name x e)
-    by_first rest false e h = let u = rest h in (u.0, later v vs u.0 u.1, u.2)
+    by_first rest true e h = (v, Contains-first v vs, same_from v.name x e)
+    by_first rest false e h = let u = rest h in (u.0, Contains-later v vs u.0 u.1, u.2)
 
 cond_true : (b : Bool) → cond b true true ≡ true
 cond_true true = refl
@@ -88,7 +89,7 @@ cond_true false = refl
 pub among_named : (vs : List Variable) (x : Name) (u : Variable) → Contains vs u → u.name ≡ x → has_name vs x ≡ true
 among_named [] x u h e = absurd (nowhere u h)
 among_named (v ∷ vs) x u h e =
-    elim (first_or_later v vs u h) [
+    elim (Contains-cases v vs u h) [
       | inl is ↦ let f = from_same v.name x (ap (λ (y : Variable). y.name) is ∙ e) in rw f refl
       | inr l ↦ let r = among_named vs x u l e in rw r (cond_true (is_same v.name x))
     ]
@@ -139,7 +140,7 @@ same_token : (v : Variable) → name_token v < 2 ^ 64 → name_mark v ≡ name_t
 same_token v h = same_mark v.name v.ty v.mark h
 
 stands_among : (before : List Variable) (v : Variable) (after all : List Variable) → all ≡ before ++ v ∷ after → Contains all v
-stands_among before v after all e = subst (λ vs. Contains vs v) (sym e) (Contains-append_right before (v ∷ after) v (first v after))
+stands_among before v after all e = subst (λ vs. Contains vs v) (sym e) (Contains-append_right before (v ∷ after) v (Contains-first v after))
 
 token_fits : (m : Method) → NamesFit m → (before : List Variable) (v : Variable) (after : List Variable) → variables_of m ≡ before ++ v ∷ after → mistake (name_mark v) E207 ≡ mistake (name_token v) E207
 token_fits m fit before v after e = ap (λ (n : ℕ). mistake n E207) (same_token v (fit v (stands_among before v after (variables_of m) e)))

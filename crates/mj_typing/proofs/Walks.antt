@@ -1,5 +1,6 @@
 -- The walk over statements, and over a method.
 use Rattle.std.proofs.Common.{◌≡◌, ℕ, ◌+◌, ◌<◌, ◌≤◌, List, [], length, drop, get_or, subst, sym}
+use Rattle.std.proofs.lemmas.List.{drop_all}
 use Rattle.mj_tree.specs.Trees.{Name, Method}
 use Rattle.mj_tree.specs.Views.{stmt_view, stmts_view}
 use Rattle.mj_tree.specs.declared.tree.Stmt.{Stmt}
@@ -9,7 +10,7 @@ use Rattle.mj_phrases.specs.Variables.{variables_of, add_repeated_each}
 use Rattle.mj_phrases.specs.Phrases.{mistakes_step}
 use Rattle.mj_phrases.specs.Steps.{Check, Proceeds, Aborts}
 use Rattle.mj_phrases.specs.Table.{Scope, return_phrase, method_scope}
-use Rattle.mj_phrases.proofs.Asked.{Comes, front_at, at_end}
+use Rattle.mj_phrases.proofs.Asked.{Comes, front_at}
 use Rattle.mj_typing.specs.Bodies.{declared_step, method_step, type_step, types_step, statement_step, statements_step}
 
 module _ {S E : Type 0} (stands : S → Check → Check → Type 0) (halts : S → Check → E → Type 0) where
@@ -42,7 +43,7 @@ module _ {S E : Type 0} (stands : S → Check → Check → Type 0) (halts : S �
     pub statements_done : (i : ℕ) (mistakes : List Mistake) (new : S) → StatementsLeft i mistakes new → length stmts ≤ i → Proceeds stands (statements_step scope (stmts_view stmts) before) old mistakes new
     unfolding statements_step
     statements_done i mistakes new l h = record {
-      goes = λ start k w. subst (λ ss. stands new start (statements_step scope (stmts_view ss) mistakes k)) (at_end stmts i h) (l.comes start k w);
+      goes = λ start k w. subst (λ ss. stands new start (statements_step scope (stmts_view ss) mistakes k)) (drop_all i stmts h) (l.comes start k w);
     }
 
   -- ---- a loop over variables
@@ -67,7 +68,7 @@ module _ {S E : Type 0} (stands : S → Check → Check → Type 0) (halts : S �
     pub types_done : (i : ℕ) (mistakes : List Mistake) (new : S) → TypesLeft i mistakes new → length vs ≤ i → Proceeds stands (types_step vs before) old mistakes new
     unfolding types_step
     types_done i mistakes new l h = record {
-      goes = λ start k w. subst (λ us. stands new start (types_step us mistakes k)) (at_end vs i h) (l.comes start k w);
+      goes = λ start k w. subst (λ us. stands new start (types_step us mistakes k)) (drop_all i vs h) (l.comes start k w);
     }
 
   -- ---- a method

@@ -1,22 +1,23 @@
 -- The next session is right.
-use Rattle.std.proofs.Common.{◌≡◌, suc, List, [], ◌∷◌, take, length, Option, Some, None, option_map, refl, sym, ap, ◌∙◌, subst, arith}
+use Rattle.std.proofs.Common.{◌≡◌, suc, List, take, length, Option, Some, None, sym, ap, ◌∙◌, subst, arith}
 use Rattle.std.specs.Prelude.{Contains, IfSome, ◌<◌}
 use Rattle.std.specs.List.{AllByRecursion}
 use Rattle.std.proofs.lemmas.List.{take_all}
-use Rattle.std.proofs.lemmas.Option.{none-some, same_Some}
+use Rattle.std.proofs.lemmas.Option.{same_Some}
 use Rattle.profiles.specs.declared.profile.Profile.{Profile}
 use Rattle.item_ids.specs.declared.key.Key.{Key}
 use Rattle.item_ids.specs.declared.key.Key.TheVariants.{Files, Source}
+use Rattle.item_ids.specs.Inputs.{rank}
+use Rattle.item_ids.proofs.Lists.{all_from}
 use Rattle.fingerprint.specs.Prints.{print_of}
 use Rattle.mj_project.specs.Projects.{IsProject}
 use Rattle.recorder.specs.Projects.{Project}
-use Rattle.recorder.specs.Backed.{Meaning, ReadLists, RunnerLaws, Queries, AreLawful, rank, Alike}
+use Rattle.recorder.specs.Backed.{Meaning, ReadLists, RunnerLaws, Queries, AreLawful, Alike}
 use Rattle.sessions.specs.declared.terms.Terms.{Terms}
 use Rattle.sessions.specs.declared.mark.Mark.{Mark}
 use Rattle.sessions.specs.declared.mark.Mark.TheVariants.{Green}
 use Rattle.sessions.specs.Sessions.{SessionValue, IsSession, Entry, entries, entry_at}
 use Rattle.sessions.proofs.EntryRules.{has_key}
-use Rattle.graph_rules.specs.Pasts.{Past, print_in}
 use Rattle.graph_rules.specs.Settings.{Setting, kept, setting_of}
 use Rattle.graph_rules.specs.Apart.{HasNoClash}
 use Rattle.graph_rules.specs.Graphs.IsRoot.{files, source}
@@ -24,22 +25,9 @@ use Rattle.graph_rules.specs.Next.{AreMeant, AreSources, IsKnownPast, IsRight, I
 use Rattle.graph_rules.specs.Next.IsReadIn.{root}
 use Rattle.graph_rules.proofs.SettingRules.{kept_held}
 use Rattle.graph_rules.proofs.KnownRules.{known_past as known_over}
-use Rattle.graph_rules.proofs.NextRules.{all_from}
+use Rattle.graph_rules.proofs.NextRules.{print_some, whole_take}
 use Rattle.graph_rules.proofs.SessionRules.{past_graph, told_of_entry, entry_told, no_clash}
 use Rattle.next_sessions.specs.Nexts.{IsOfSomeProject, StandsApart, IsNextSession, ReadsOwnFiles}
-
--- a list of which one element more is the list itself
-whole : (xs ys : List Key) → take (suc (length xs)) ys ≡ xs → ys ≡ xs
-whole [] [] e = refl
-whole [] (y ∷ ys) e = absurd (cc)
-whole (x ∷ xs) [] e = e
-whole (x ∷ xs) (y ∷ ys) e =
-    let h : y ≡ x = cc in
-    let t : take (suc (length xs)) ys ≡ xs = cc in
-    ap (λ (z : Key). z ∷ ys) h ∙ ap (λ (zs : List Key). x ∷ zs) (whole xs ys t)
-
-print_some : (past : Past) (e : Key) (x : Entry) → past e ≡ Some x → print_in past e ≡ Some (print_of x.value)
-print_some past e x is = ap (option_map (λ r. print_of r.value)) is
 
 module _ (mean : Meaning) (reads : ReadLists) (laws : RunnerLaws mean reads) (over : Setting) (p : Project) (s : SessionValue)
     (project : IsProject p) (own : ReadsOwnFiles reads p) (session : IsSession s) (next : AreNext mean reads over p (entries s)) where
@@ -90,7 +78,7 @@ module _ (mean : Meaning) (reads : ReadLists) (laws : RunnerLaws mean reads) (ov
         let n = length (known.past_reads old q) in
         let some : Alike (known.past_mean old) (mean p) (take n (known.past_reads old q)) = subst (Alike (known.past_mean old) (mean p)) (sym (take_all n (known.past_reads old q) (omega arith))) alike in
         let after = across.next old p n known.is_project project some in
-        let same : reads p q ≡ known.past_reads old q = whole (known.past_reads old q) (reads p q) (sym after ∙ take_all (suc n) (known.past_reads old q) (omega arith)) in
+        let same : reads p q ≡ known.past_reads old q = whole_take (known.past_reads old q) (reads p q) (sym after ∙ take_all (suc n) (known.past_reads old q) (omega arith)) in
         let value : known.past_mean old q ≡ mean p q = across.same old p known.is_project project high alike in
         let edges : u.had.reads ≡ r.reads = m.1 ∙ (sym same ∙ (sym (ap (reads p) key) ∙ sym e.edges)) in
         let results : u.had.value ≡ r.value = m.0 ∙ (value ∙ (sym (ap (mean p) key) ∙ sym e.value)) in

@@ -1,22 +1,19 @@
 -- Entries determine their records.
-use Rattle.std.proofs.Common.{◌≡◌, ℕ, suc, zero, ◌<◌, List, [], ◌∷◌, map, take, length, get_or, Option, refl, sym, ap, ◌∙◌, subst, inl, inr, arith, slice_index_or}
+use Rattle.std.proofs.Common.{◌≡◌, ℕ, ◌<◌, List, [], ◌∷◌, map, length, Option, refl, sym, ap, ◌∙◌, inl, inr, arith, slice_index_or}
 use Rattle.std.specs.List.{AllByRecursion}
-use Rattle.std.specs.declared.cmp.Ordering.TheVariants.{Less, Equal}
-use Rattle.std.proofs.lemmas.Bool.{cases_lt}
-use Rattle.std.proofs.lemmas.List.{get_or-map, length-map}
+use Rattle.std.proofs.lemmas.Bool.{cases_eq}
+use Rattle.std.proofs.lemmas.List.{length-map}
 use Rattle.item_ids.specs.declared.key.Key.{Key}
 use Rattle.item_ids.specs.declared.key.Key.TheVariants.{Files}
-use Rattle.item_ids.specs.Keys.{key_cmp}
-use Rattle.item_ids.proofs.Apart.{key_itself}
+use Rattle.item_ids.proofs.Lists.{all_from}
 use Rattle.result_bytes.specs.declared.value.Value.{Value}
 use Rattle.sessions.specs.declared.mark.Mark.{Mark}
 use Rattle.sessions.specs.declared.terms.Terms.{Terms}
-use Rattle.sessions.specs.Sessions.{RecordValue, SessionValue, IsSession, FitsBehind, IsAbove, AreInside, Entry, entry_of, entries, key_at}
-use Rattle.sessions.proofs.EntryRules.{edges_here}
+use Rattle.sessions.specs.Sessions.{RecordValue, SessionValue, IsSession, AreInside, Entry, entry_of, entries, key_at}
+use Rattle.sessions.proofs.EntryRules.{edges_here, keys_differ}
 use Rattle.recorder.specs.Projects.{Project}
 use Rattle.recorder.specs.Backed.{Queries}
 use Rattle.graph_rules.specs.Settings.{setting_of}
-use Rattle.graph_rules.proofs.NextRules.{all_from}
 use Rattle.graph_rules.proofs.OneNext.{next_is_one}
 use Rattle.next_sessions.specs.Nexts.{IsNextSession}
 
@@ -24,40 +21,12 @@ keys_of : (rs xs : List RecordValue) → map (λ (e : Entry). e.key) (map (entry
 keys_of rs [] = refl
 keys_of rs (x ∷ xs) = ap (λ (ks : List Key). x.key ∷ ks) (keys_of rs xs)
 
--- ---- keys of a session's records differ
-
-above_at : (front : List RecordValue) (key : Key) → IsAbove front key → (n i : ℕ) (rs : List RecordValue) (d : RecordValue) → take n rs ≡ front → i < n → i < length rs → key_cmp (get_or rs i d).key key ≡ Less
-above_at front key above zero i rs d is lt here = absurd (omega arith)
-above_at front key above (suc n) i [] d is lt here = absurd (omega arith)
-above_at [] key above (suc n) i (r ∷ rs) d is lt here = absurd (cc)
-above_at (y ∷ ys) key above (suc n) zero (r ∷ rs) d is lt here = let e : r ≡ y = cc in subst (λ (x : RecordValue). key_cmp x.key key ≡ Less) (sym e) above.0
-above_at (y ∷ ys) key above (suc n) (suc i) (r ∷ rs) d is lt here = let e : take n rs ≡ ys = cc in above_at ys key above.1 n i rs d e (omega arith) (omega arith)
-
 module _ (s : SessionValue) (session : IsSession s) where
-  key_there : (i : ℕ) (d : RecordValue) → i < length s.records → key_at s.records i ≡ (get_or s.records i d).key
-  key_there i d lt = get_or-map (λ (x : RecordValue). x.key) s.records i d Files lt
-
-  some_record : (rs : List RecordValue) (i : ℕ) → i < length rs → RecordValue
-  some_record [] i lt = absurd (omega arith)
-  some_record (r ∷ rs) i lt = r
-
-  rises : (i j : ℕ) → i < j → j < length s.records → key_at s.records i ≡ key_at s.records j → ⊥
-  rises i j below lt same =
-      let d = some_record s.records j lt in
-      let fits : FitsBehind (take j s.records) (get_or s.records j d) = session.records j d lt in
-      let less : key_cmp (get_or s.records i d).key (get_or s.records j d).key ≡ Less = above_at (take j s.records) (get_or s.records j d).key fits.above j i s.records d refl below (omega arith) in
-      let e : (get_or s.records i d).key ≡ (get_or s.records j d).key = sym (key_there i d (omega arith)) ∙ (same ∙ key_there j d lt) in
-      let equal : Less ≡ Equal = sym less ∙ key_itself (get_or s.records i d).key (get_or s.records j d).key e in
-      absurd (cc)
-
   pub one_place : (i j : ℕ) → i < length s.records → j < length s.records → key_at s.records i ≡ key_at s.records j → i ≡ j
   one_place i j li lj same =
-      elim (cases_lt i j) [
-        | inl below ↦ absurd (rises i j below lj same)
-        | inr above ↦ elim (cases_lt j i) [
-          | inl below ↦ absurd (rises j i below li (sym same))
-          | inr other ↦ omega (arith, above, other)
-        ]
+      elim (cases_eq i j) [
+        | inl is ↦ is
+        | inr other ↦ absurd (keys_differ s.records session.records i j li lj other same)
       ]
 
   pub all_inside : AllByRecursion (λ (r : RecordValue). AreInside s.records r.edges) s.records

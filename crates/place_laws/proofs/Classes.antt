@@ -9,10 +9,11 @@ use Rattle.mj_expressions.specs.Tokens.{has}
 use Rattle.mj_expressions.specs.Expressions.{any_tier, size}
 use Rattle.mj_parser.specs.Rows.{row_size}
 use Rattle.mj_parser.specs.Declarations.{type_size, formals_size, formals_place, locals_place, body_place, return_place, method_size, IsMethod, field_size, IsField, IsMethodAt, superclass_size, IsSuperclass, head_size, class_size, IsClass}
+use Rattle.mj_parser.proofs.FileAgain.{has_drop, method_begins}
 use Rattle.mj_expressions.proofs.Marks.{has_other}
 use Rattle.mj_expressions.proofs.Stands.{has_is}
 use Rattle.place_laws.specs.Parts.{field_parts, method_parts}
-use Rattle.place_laws.proofs.Runs.{Along, along_none, along_one, along_map, along_drop, upto, join, row_along, run, run_join, Lacks, lacks_run, front_run, row_run, has_drop}
+use Rattle.place_laws.proofs.Runs.{Along, along_none, along_one, along_map, along_drop, upto, join, row_along, run, run_join, Lacks, lacks_run, front_run, row_run}
 use Rattle.place_laws.proofs.Quiet.{IsPlain, Quiet, sign, word, expression_quiet, statements_quiet, plain_sign, plain_word, plain_quiet, type_plain, locals_quiet, formals_quiet}
 
 -- ---- methods, whose tokens are numbered from `public`
@@ -45,18 +46,15 @@ abbrev pub field_end : ℕ → Field → ℕ
 field_end i f = i + (type_size f.ty + 1)
 
 module _ (ts : List Token) where
-  pub method_public : (i : ℕ) (m : Method) → IsMethodAt ts i m → has ts i terminals.Public ≡ true
-  method_public i m h = front_drop ts i terminals.Public (has_is (drop i ts) 0 terminals.Public h.public_word)
-
   method_quiet : (i : ℕ) (m : Method) → IsMethodAt ts i m → Quiet ts (i + 1) (i + method_size m)
   method_quiet i m h = quiet_drop ts i 1 (method_size m) (inner_part (drop i ts) m h)
 
   method_run : (i : ℕ) (m : Method) → IsMethodAt ts i m → run ts terminals.Public i (method_size m) ≡ i ∷ []
-  method_run i m h = front_run ts terminals.Public i (method_size m) (method_public i m h) (omega arith) (along_map (λ at q. q.1) (method_quiet i m h))
+  method_run i m h = front_run ts terminals.Public i (method_size m) (method_begins ts i m h) (omega arith) (along_map (λ at q. q.1) (method_quiet i m h))
 
   method_lacks : (i : ℕ) (m : Method) → IsMethodAt ts i m → Lacks ts terminals.Class i (i + method_size m)
   method_lacks i m h =
-      let first = along_one i (has_other ts i terminals.Public terminals.Class (method_public i m h) refl) in
+      let first = along_one i (has_other ts i terminals.Public terminals.Class (method_begins ts i m h) refl) in
       join first (along_map (λ at q. q.0) (method_quiet i m h)) (omega arith)
 
   -- ---- fields

@@ -15,12 +15,13 @@ use Rattle.mj_expressions.specs.Steps.{◌>>=◌}
 use Rattle.mj_parser.specs.Rows.{InRow, row_size}
 use Rattle.mj_parser.specs.Declarations.{type_size, IsType, field_size, IsField, method_size, IsMethodAt, head_size, class_size, IsClass}
 use Rattle.mj_parser.specs.Locations.{all_of, existing, class_start, class_end, all_in_class, class_name, field_name, method_name, method_start, name_of_method}
+use Rattle.mj_parser.proofs.FileAgain.{has_drop}
 use Rattle.mj_expressions.proofs.Binds.{some_is}
 use Rattle.mj_expressions.proofs.Marks.{has_other, has_named, name_within}
 use Rattle.mj_expressions.proofs.Stands.{has_is}
 use Rattle.place_laws.specs.Laws.{IsNameFound, ClassTokens}
 use Rattle.place_laws.specs.Parts.{Part, row_parts, field_parts, method_parts, field_name_place, method_name_place, method_named}
-use Rattle.place_laws.proofs.Runs.{run, all_run, has_drop, name_drop}
+use Rattle.place_laws.proofs.Runs.{run, all_run, name_drop}
 use Rattle.place_laws.proofs.Inside.{method_tokens}
 use Rattle.place_laws.proofs.Classes.{field_end, class_publics, class_semicolons}
 

@@ -9,7 +9,7 @@ use Rattle.mj_tree.specs.Trees.{Expression, Expressions, Binary, Index, Length, 
 use Rattle.mj_expressions.specs.Expressions.{any_tier, size, sizes, sizes_more, IsExp, AreArguments, AreMore}
 use Rattle.mj_parser.specs.Statements.{stmt_size, stmts_size, IsStmt, AreStmts}
 use Rattle.mj_parser.specs.Rows.{InRow, row_size}
-use Rattle.mj_parser.specs.Declarations.{IsVariable, variable_size, IsMoreFormal, more_formal_size, formals_size, AreFormals, IsLocal, local_size, method_size, formals_place, locals_place, body_place, return_place, IsMethod, IsMethodAt, IsMain}
+use Rattle.mj_parser.specs.Declarations.{IsVariableAt, variable_size, IsMoreFormal, more_formal_size, formals_size, AreFormals, IsLocalAt, local_size, method_size, formals_place, locals_place, body_place, return_place, IsMethod, IsMethodAt, IsMain}
 use Rattle.mj_parser.specs.MarkBounds.{ExpMarksBelow, ExpsMarksBelow, StmtMarksBelow, StmtsMarksBelow, VariableBelow, MethodMarksBelow}
 use Rattle.mj_expressions.proofs.Stands.{stands_within}
 use Rattle.place_laws.specs.Parts.{Part}
@@ -52,10 +52,10 @@ module _ (ts : List Token) (n : ℕ) where
     stmts_marks i done le h = tt
     stmts_marks i (next s ss) le h = (stmt_marks i s (omega arith) h.0, stmts_marks (i + stmt_size s) ss (omega arith) h.1)
 
-  variable_marks : (i : ℕ) (v : Variable) → i + variable_size v ≤ n → IsVariable ts i v → VariableBelow n v
+  variable_marks : (i : ℕ) (v : Variable) → i + variable_size v ≤ n → IsVariableAt ts i v → VariableBelow n v
   variable_marks i v le h = let at = h.0 in omega arith
 
-  locals_marks : (i : ℕ) (vs : List Variable) → i + row_size local_size vs ≤ n → InRow (IsLocal ts) local_size i vs → All (VariableBelow n) vs
+  locals_marks : (i : ℕ) (vs : List Variable) → i + row_size local_size vs ≤ n → InRow (IsLocalAt ts) local_size i vs → All (VariableBelow n) vs
   locals_marks i [] le h = All-nil (VariableBelow n)
   locals_marks i (v ∷ vs) le h = let first = h.0 in All-cons (VariableBelow n) v vs (variable_marks i v (omega arith) first.0) (locals_marks (i + local_size v) vs (omega arith) h.1)
 

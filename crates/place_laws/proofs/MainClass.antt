@@ -6,9 +6,10 @@ use Rattle.mj_tree.specs.Trees.{Name, Main}
 use Rattle.mj_expressions.specs.Tokens.{has, says, name_at}
 use Rattle.mj_parser.specs.Statements.{stmt_size}
 use Rattle.mj_parser.specs.Declarations.{main_head, main_parameter, IsMain, main_size}
+use Rattle.mj_parser.proofs.FileAgain.{has_drop}
 use Rattle.mj_expressions.proofs.Marks.{has_other, says_name}
 use Rattle.mj_expressions.proofs.Stands.{has_is, stands}
-use Rattle.place_laws.proofs.Runs.{along_one, along_map, upto, join, run, run_join, Lacks, lacks_run, front_run, has_drop, name_drop}
+use Rattle.place_laws.proofs.Runs.{along_one, along_map, upto, join, run, run_join, Lacks, lacks_run, front_run, name_drop}
 use Rattle.place_laws.proofs.Quiet.{Quiet, sign, word, said, six_parts, statement_quiet}
 use Rattle.place_laws.proofs.Classes.{quiet_drop, front_drop}
 

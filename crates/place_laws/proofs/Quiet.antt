@@ -13,7 +13,7 @@ use Rattle.mj_expressions.specs.Tokens.{same_terminal, has, Stands, says, name_a
 use Rattle.mj_expressions.specs.Expressions.{terminal_of, terminal_of_bool, size, sizes, sizes_more, IsExp, AreArguments, AreMore}
 use Rattle.mj_parser.specs.Statements.{stmt_size, stmts_size, opens_print, IsStmt, AreStmts}
 use Rattle.mj_parser.specs.Rows.{InRow, row_size}
-use Rattle.mj_parser.specs.Declarations.{type_size, IsType, IsVariable, variable_size, IsMoreFormal, more_formal_size, formals_size, AreFormals, IsLocal, local_size}
+use Rattle.mj_parser.specs.Declarations.{type_size, IsType, IsVariableAt, variable_size, IsMoreFormal, more_formal_size, formals_size, AreFormals, IsLocalAt, local_size}
 use Rattle.mj_expressions.proofs.Marks.{has_other, has_named, has_valued, says_name}
 use Rattle.mj_expressions.proofs.Stands.{has_is, stands}
 use Rattle.place_laws.proofs.Runs.{Along, along_none, along_one, along_map, upto, join, row_along}
@@ -179,17 +179,17 @@ module _ (ts : List Token) where
       upto (join (plain_sign i terminals.Int h.0 refl refl refl refl) brackets (omega arith)) (omega arith)
   type_plain i (types.Class name) h = plain_word i name h
 
-  variable_quiet : (i : ℕ) (v : Variable) → IsVariable ts i v → Quiet i (i + variable_size v)
+  variable_quiet : (i : ℕ) (v : Variable) → IsVariableAt ts i v → Quiet i (i + variable_size v)
   variable_quiet i v h = upto (join (plain_quiet (type_plain i v.ty h.1)) (word (i + type_size v.ty) v.name h.2) (omega arith)) (omega arith)
 
-  local_quiet : (i : ℕ) (v : Variable) → IsLocal ts i v → Quiet i (i + local_size v)
+  local_quiet : (i : ℕ) (v : Variable) → IsLocalAt ts i v → Quiet i (i + local_size v)
   local_quiet i v h = upto (join (variable_quiet i v h.0) (sign (i + variable_size v) terminals.Semicolon h.1 refl refl) (omega arith)) (omega arith)
 
   more_formal_quiet : (i : ℕ) (v : Variable) → IsMoreFormal ts i v → Quiet i (i + more_formal_size v)
   more_formal_quiet i v h = upto (join (sign i terminals.Comma h.0 refl refl) (variable_quiet (i + 1) v h.1) (omega arith)) (omega arith)
 
-  pub locals_quiet : (i : ℕ) (vs : List Variable) → InRow (IsLocal ts) local_size i vs → Quiet i (i + row_size local_size vs)
-  locals_quiet = row_along (IsLocal ts) local_size local_quiet
+  pub locals_quiet : (i : ℕ) (vs : List Variable) → InRow (IsLocalAt ts) local_size i vs → Quiet i (i + row_size local_size vs)
+  locals_quiet = row_along (IsLocalAt ts) local_size local_quiet
 
   pub formals_quiet : (i : ℕ) (vs : List Variable) → AreFormals ts i vs → Quiet i (i + formals_size vs)
   formals_quiet i [] h = along_none i (i + 0) (omega arith)

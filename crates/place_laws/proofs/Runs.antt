@@ -81,10 +81,6 @@ get_drop (suc i) (x ∷ xs) j = let same : suc i + j ≡ suc (i + j) = omega ari
 kind_drop : (ts : List Token) (i j : ℕ) → kind_at (drop i ts) j ≡ kind_at ts (i + j)
 kind_drop ts i j = ap token_kind (get_drop i ts j)
 
-pub has_drop : (ts : List Token) (i j : ℕ) (t : Terminal) → has (drop i ts) j t ≡ has ts (i + j) t
-unfolding has
-has_drop ts i j t = rw (kind_drop ts i j) refl
-
 pub name_drop : (ts : List Token) (i j : ℕ) → name_at (drop i ts) j ≡ name_at ts (i + j)
 unfolding name_at
 name_drop ts i j = rw (kind_drop ts i j) refl

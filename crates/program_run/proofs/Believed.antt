@@ -5,7 +5,7 @@ use Rattle.std.specs.Str.{bytes_eq}
 use Rattle.std.proofs.lemmas.Option.{same_Some}
 use Rattle.sessions.specs.Sessions.{session_in}
 use Rattle.command_line.specs.CommandLine.{AsksFor, Asks}
-use Rattle.command_line.specs.Subcommands.{name_of}
+use Rattle.command_line.specs.Subcommands.{word_for}
 use Rattle.command_line.specs.declared.asked.CheckWords.{CheckWords}
 use Rattle.command_line.specs.declared.asked.Subcommand.{Subcommand}
 use Rattle.command_line.specs.declared.asked.Subcommand.TheVariants.{Scratch, Check, Audit, Show, Why, Explain}
@@ -37,9 +37,9 @@ true_false : true ≡ false → ⊥
 true_false e = cc
 
 -- words that ask for a check ask for no subcommand of another name
-not_check : (given : List (List ℕ)) (other : Subcommand) → AsksFor given Check → AsksFor given other → bytes_eq (codes "check") (name_of other) ≡ false → ⊥
+not_check : (given : List (List ℕ)) (other : Subcommand) → AsksFor given Check → AsksFor given other → bytes_eq (codes "check") (word_for other) ≡ false → ⊥
 not_check given other check asks differs =
-    let same : name_of Check ≡ name_of other = same_Some (name_of Check) (name_of other) (sym check ∙ asks) in
+    let same : word_for Check ≡ word_for other = same_Some (word_for Check) (word_for other) (sym check ∙ asks) in
     true_false (ap (λ name. bytes_eq (codes "check") name) same ∙ differs)
 
 asked_for : (given : List (List ℕ)) (told : List ℕ) (report : Report) (a b c d : Option (List ℕ)) (asked : Words) → AsksFor given Check → Asks given asked

@@ -33,33 +33,5 @@ module _ {File : Type 0} (held : File → Option (List ℕ)) (front : List (List
 
   pub fails_behind : (fault : AuditFault) → ((bytes : List ℕ) → held opened ≡ Some bytes → RefusesBehind front bytes fault)
       → FailsBehind held front (string_bytes name) (failure_of name fault)
-  fails_behind chain.EmptyChain refuses = other chain.EmptyChain (λ j e. absurd cc) refuses
-  fails_behind (chain.File k file.BadMagic) refuses = other (chain.File k file.BadMagic) (λ j e. absurd cc) refuses
-  fails_behind (chain.File k file.Version) refuses = other (chain.File k file.Version) (λ j e. absurd cc) refuses
-  fails_behind (chain.File k file.Truncated) refuses = other (chain.File k file.Truncated) (λ j e. absurd cc) refuses
-  fails_behind (chain.File k file.BadDigest) refuses = other (chain.File k file.BadDigest) (λ j e. absurd cc) refuses
-  fails_behind (chain.File k (file.KeyOrder n)) refuses = other (chain.File k (file.KeyOrder n)) (λ j e. absurd cc) refuses
-  fails_behind (chain.File k (file.BadEdge n i)) refuses = other (chain.File k (file.BadEdge n i)) (λ j e. absurd cc) refuses
-  fails_behind (chain.File k (file.Result n)) refuses = other (chain.File k (file.Result n)) (λ j e. absurd cc) refuses
-  fails_behind (chain.File k (file.InputKind n)) refuses = other (chain.File k (file.InputKind n)) (λ j e. absurd cc) refuses
-  fails_behind (chain.File k file.Trailing) refuses = other (chain.File k file.Trailing) (λ j e. absurd cc) refuses
   fails_behind (chain.File k file.Device) refuses = refl
-  fails_behind (chain.File k (file.BadKey n)) refuses = other (chain.File k (file.BadKey n)) (λ j e. absurd cc) refuses
-  fails_behind (chain.File k file.Number) refuses = other (chain.File k file.Number) (λ j e. absurd cc) refuses
-  fails_behind (chain.File k (file.NoPastResult n)) refuses = other (chain.File k (file.NoPastResult n)) (λ j e. absurd cc) refuses
-  fails_behind (chain.File k file.OutOfMemory) refuses = other (chain.File k file.OutOfMemory) (λ j e. absurd cc) refuses
-  fails_behind (chain.BrokenLink k) refuses = other (chain.BrokenLink k) (λ j e. absurd cc) refuses
-  fails_behind (chain.NoFiles k) refuses = other (chain.NoFiles k) (λ j e. absurd cc) refuses
-  fails_behind (chain.MissingSource k f) refuses = other (chain.MissingSource k f) (λ j e. absurd cc) refuses
-  fails_behind (chain.StraySource k f) refuses = other (chain.StraySource k f) (λ j e. absurd cc) refuses
-  fails_behind (chain.GreenWithoutPast k n) refuses = other (chain.GreenWithoutPast k n) (λ j e. absurd cc) refuses
-  fails_behind (chain.GreenAcrossProfiles k n) refuses = other (chain.GreenAcrossProfiles k n) (λ j e. absurd cc) refuses
-  fails_behind (chain.OtherEdges k n) refuses = other (chain.OtherEdges k n) (λ j e. absurd cc) refuses
-  fails_behind (chain.GreenOverRed k n i) refuses = other (chain.GreenOverRed k n i) (λ j e. absurd cc) refuses
-  fails_behind (chain.GreenPrint k n) refuses = other (chain.GreenPrint k n) (λ j e. absurd cc) refuses
-  fails_behind (chain.OtherRead k n i) refuses = other (chain.OtherRead k n i) (λ j e. absurd cc) refuses
-  fails_behind (chain.UnreadEdges k n) refuses = other (chain.UnreadEdges k n) (λ j e. absurd cc) refuses
-  fails_behind (chain.OtherResult k n) refuses = other (chain.OtherResult k n) (λ j e. absurd cc) refuses
-  fails_behind chain.NoAnswer refuses = other chain.NoAnswer (λ j e. absurd cc) refuses
-  fails_behind chain.SourcesDiffer refuses = other chain.SourcesDiffer (λ j e. absurd cc) refuses
-  fails_behind chain.OutOfMemory refuses = other chain.OutOfMemory (λ j e. absurd cc) refuses
+  fails_behind fault refuses = other fault (λ j e. absurd cc) refuses

@@ -1,16 +1,16 @@
 -- What is said of files as they are taken.
 use Rattle.std.proofs.Common.{◌≡◌, ◌∙◌, ℕ, Bool, true, false, List, [], ◌∷◌, ◌++◌, length, map, slice_get, Option, Some, None, refl, sym, ap, subst, arith, append-nil, append_assoc}
 use Rattle.std.specs.Io.KnownBytes.{Appends}
-use Rattle.std.proofs.lemmas.List.{length-map}
+use Rattle.std.proofs.lemmas.List.{length-map, map-append}
 use Rattle.sessions.specs.Sessions.{SessionValue}
 use Rattle.sessions.specs.Spelling.{file_of}
 use Rattle.mini_java.specs.Taken.{HasTaken}
 use Rattle.mini_java.specs.declared.auditor.ChainAuditor.{ChainAuditor}
-use Rattle.program_run.specs.Audits.{FailsBehind, IsStopped, StopsAt, TakeFails, TakesMore, TellFails, TookAll, TookFront, progress_line, progress_of, told_last, told_of}
+use Rattle.program_run.specs.Audits.{FailsBehind, IsStopped, StopsAt, TakeFails, TakesMore, TellFails, TookAll, TookFirst, progress_line, progress_of, told_last, told_of}
 use Rattle.program_run.specs.declared.failure.Failure.{Failure}
 use Rattle.program_run.specs.declared.failure.Failure.TheVariants as failure
 use Rattle.audit_replay.specs.Audits.{last_of}
-use Rattle.program_run.proofs.Shown.{last_behind}
+use Rattle.audit_replay.proofs.FileRules.{last_more}
 use Rattle.program_run.proofs.Taking.{many_more}
 use Rattle.program_run.proofs.Streams.{appends_both, appends_none}
 
@@ -47,10 +47,6 @@ told_front false names rest ss same = refl
 pub many_sessions : (files : List (List ℕ)) (auditor : ChainAuditor) (taken : HasTaken files auditor) → length taken.sessions ≡ length files
 many_sessions files auditor taken = sym (length-map taken.sessions file_of) ∙ ap (λ (fs : List (List ℕ)). length fs) taken.passed.spelled
 
-pub map_behind : {A B : Type 0} (f : A → B) (ys rest : List A) → map f (ys ++ rest) ≡ map f ys ++ map f rest
-map_behind f [] rest = refl
-map_behind f (y ∷ ys) rest = ap (λ more. f y ∷ more) (map_behind f ys rest)
-
 module _ {A : Type 0} (spell : A → List ℕ) (progress : Bool) (start before after : Option (List ℕ)) where
   -- what is said of one file more
   pub took_more : (ys : List A) (y : A) (old new : ChainAuditor) (was : TookAll (map spell ys) progress start before old)
@@ -60,7 +56,7 @@ module _ {A : Type 0} (spell : A → List ℕ) (progress : Bool) (start before a
       let names = map spell ys in
       let same : length was.front.taken.sessions ≡ length names = many_sessions was.front.files old was.front.taken ∙ was.many in
       let said : told_of progress (map spell (ys ++ y ∷ [])) more.taken.sessions ≡ told_of progress names was.front.taken.sessions ++ told_last progress (spell y) (Some more.session) =
-      ap (λ ns. told_of progress ns more.taken.sessions) (map_behind spell ys (y ∷ []))
+      ap (λ ns. told_of progress ns more.taken.sessions) (map-append spell ys (y ∷ []))
       ∙ (ap (λ ss. told_of progress (names ++ spell y ∷ []) ss) more.behind ∙ told_more progress names was.front.taken.sessions (spell y) more.session same) in
       record {
         front = record {
@@ -89,7 +85,7 @@ took_none progress e auditor taken = record {
 
 -- the files taken stand in front of those of more names
 pub took_front : (names rest : List (List ℕ)) (progress : Bool) (before after : Option (List ℕ)) (auditor : ChainAuditor)
-    → TookAll names progress before after auditor → TookFront (names ++ rest) progress before after auditor
+    → TookAll names progress before after auditor → TookFirst (names ++ rest) progress before after auditor
 took_front names rest progress before after auditor all = record {
   files = all.front.files;
   taken = all.front.taken;
@@ -115,12 +111,12 @@ pub told_next : (progress : Bool) (called name : List ℕ) (front all : List Ses
     → told_last progress called (last_of None all) ≡ told_last progress name (Some s)
 told_next progress called name front all s same more =
     ap (λ n. told_last progress n (last_of None all)) same
-    ∙ ap (λ last. told_last progress name last) (ap (λ ss. last_of None ss) more ∙ last_behind None front s)
+    ∙ ap (λ last. told_last progress name last) (ap (λ ss. last_of None ss) more ∙ last_more None front s)
 
 -- ---- why not all are taken
 
 module _ {File : Type 0} (held : File → Option (List ℕ)) (names : List (List ℕ)) (progress : Bool) (start before after : Option (List ℕ)) where
-  stops : (auditor : ChainAuditor) (took : TookFront names progress start before auditor) (name : List ℕ) → slice_get names (length took.files) ≡ Some name
+  stops : (auditor : ChainAuditor) (took : TookFirst names progress start before auditor) (name : List ℕ) → slice_get names (length took.files) ≡ Some name
       → (why : Failure) → FailsBehind held took.files name why × (before ≡ after) → StopsAt held names progress start after why
   stops auditor took name here why fails = record {
     auditor = auditor;
@@ -130,18 +126,11 @@ module _ {File : Type 0} (held : File → Option (List ℕ)) (names : List (List
     fails = fails.0;
   }
 
-  pub stopped_at : (auditor : ChainAuditor) (took : TookFront names progress start before auditor) (name : List ℕ) → slice_get names (length took.files) ≡ Some name
+  pub stopped_at : (auditor : ChainAuditor) (took : TookFirst names progress start before auditor) (name : List ℕ) → slice_get names (length took.files) ≡ Some name
       → (why : Failure) → TakeFails held took.files name progress before after why → IsStopped held names progress start after why
-  stopped_at auditor took name here (failure.Words fault) f = f
   stopped_at auditor took name here (failure.CannotRead path) f = stops auditor took name here (failure.CannotRead path) f
-  stopped_at auditor took name here failure.Untold f = f
-  stopped_at auditor took name here (failure.NoRecord key) f = f
-  stopped_at auditor took name here (failure.UnknownCode code) f = f
-  stopped_at auditor took name here (failure.Project fault) f = f
   stopped_at auditor took name here (failure.Chain fault) f = stops auditor took name here (failure.Chain fault) f
-  stopped_at auditor took name here (failure.SessionFile fault) f = f
-  stopped_at auditor took name here (failure.Cache fault) f = f
-  stopped_at auditor took name here failure.OutOfMemory f = f
+  stopped_at auditor took name here why f = f
 
   -- behind the files taken so far one stops the audit of them all
   pub stopped_behind : (front rest : List (List ℕ)) → front ++ rest ≡ names → (auditor : ChainAuditor) (was : TookAll front progress start before auditor) (name : List ℕ)
@@ -150,7 +139,7 @@ module _ {File : Type 0} (held : File → Option (List ℕ)) (names : List (List
   stopped_behind front rest same auditor was name here why fails =
       stopped_at auditor (front_of (took_front front rest progress start before auditor was)) name here why fails
     where
-      front_of : TookFront (front ++ rest) progress start before auditor → TookFront names progress start before auditor
+      front_of : TookFirst (front ++ rest) progress start before auditor → TookFirst names progress start before auditor
       front_of took = record {
         files = took.files;
         taken = took.taken;
@@ -160,27 +149,14 @@ module _ {File : Type 0} (held : File → Option (List ℕ)) (names : List (List
 -- why the file of this name isn't taken
 pub take_fails : {File : Type 0} (held : File → Option (List ℕ)) (front : List (List ℕ)) (name : List ℕ) (progress : Bool) (before after : Option (List ℕ))
     → before ≡ after → (why : Failure) → FailsBehind held front name why → TakeFails held front name progress before after why
-take_fails held front name progress before after same (failure.Words fault) f = absurd f
 take_fails held front name progress before after same (failure.CannotRead path) f = (f, same)
-take_fails held front name progress before after same failure.Untold f = absurd f
-take_fails held front name progress before after same (failure.NoRecord key) f = absurd f
-take_fails held front name progress before after same (failure.UnknownCode code) f = absurd f
-take_fails held front name progress before after same (failure.Project fault) f = absurd f
 take_fails held front name progress before after same (failure.Chain fault) f = (f, same)
-take_fails held front name progress before after same (failure.SessionFile fault) f = absurd f
-take_fails held front name progress before after same (failure.Cache fault) f = absurd f
 take_fails held front name progress before after same failure.OutOfMemory f = tt
+take_fails held front name progress before after same why f = absurd f
 
 -- why nothing is said of it
 pub tell_fails : {File : Type 0} (held : File → Option (List ℕ)) (front : List (List ℕ)) (name : List ℕ) (progress : Bool) (before after : Option (List ℕ))
     → (why : Failure) → TellFails progress why → TakeFails held front name progress before after why
-tell_fails held front name progress before after (failure.Words fault) f = absurd f
-tell_fails held front name progress before after (failure.CannotRead path) f = absurd f
 tell_fails held front name progress before after failure.Untold f = f
-tell_fails held front name progress before after (failure.NoRecord key) f = absurd f
-tell_fails held front name progress before after (failure.UnknownCode code) f = absurd f
-tell_fails held front name progress before after (failure.Project fault) f = absurd f
-tell_fails held front name progress before after (failure.Chain fault) f = absurd f
-tell_fails held front name progress before after (failure.SessionFile fault) f = absurd f
-tell_fails held front name progress before after (failure.Cache fault) f = absurd f
 tell_fails held front name progress before after failure.OutOfMemory f = tt
+tell_fails held front name progress before after why f = absurd f

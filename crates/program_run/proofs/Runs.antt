@@ -2,18 +2,19 @@
 use Rattle.std.proofs.Common.{◌≡◌, ◌∙◌, ◌⊎◌, inl, inr, ℕ, List, [], ◌∷◌, Option, Some, is_some, map, string_bytes, String, Vec, refl, sym, ap, subst, arith}
 use Rattle.std.specs.declared.alloc.Global.{Global}
 use Rattle.mj_project.specs.Projects.{names_of, sources_view}
+use Rattle.command_line.specs.CommandLine.{Asks}
 use Rattle.command_line.specs.declared.asked.Subcommand.{Subcommand}
 use Rattle.command_line.proofs.ProgramWords.{plain_asked}
 use Rattle.command_line.specs.Plain.{HasDefaults, files_for}
 use Rattle.command_line.specs.declared.asked.Words.{Words}
 use Rattle.command_line.specs.declared.asked.Words.TheVariants as words
 use Rattle.program_run.specs.Audits.{file_names, told_of}
-use Rattle.program_run.specs.Runs.{EndsWithAnswer, HasAnswer, Reports, ReportsAsked, ReportsRefusal, TellsHelp, IsWritten, Prints, PrintsPlain, PrintsRefusal, status_number}
-use Rattle.program_run.specs.Statuses.{IsStatus}
+use Rattle.program_run.specs.Runs.{EndsWithAnswer, IsAnswerStatus, Reports, ReportsAsked, ReportsRefusal, TellsHelp, IsWritten, Prints, PrintsPlain, PrintsRefusal, status_number}
+use Rattle.program_run.specs.Endings.{IsStatus}
 use Rattle.program_run.specs.declared.report.Report.{Report}
 use Rattle.program_run.specs.declared.report.Status.{Status}
 use Rattle.program_run.specs.declared.report.Status.TheVariants as status
-use Rattle.program_run.proofs.Streams.{appends_behind}
+use Rattle.program_run.proofs.Streams.{appends_behind, appends_none}
 
 pub names_of_sources : (files : List (String Global × Vec ℕ Global)) → names_of (sources_view files) ≡ map (λ file. string_bytes file.0) files
 names_of_sources [] = refl
@@ -26,26 +27,26 @@ is_status status.Refused = (2, omega arith, refl)
 is_status status.ChainRefused = (3, omega arith, refl)
 is_status status.OutOfMemory = (4, omega arith, refl)
 
+-- nothing is said before a report but by an audit
+pub told_alone : (given : List (List ℕ)) (e : Option (List ℕ)) (asked : Words) (report : Report) → Asks given asked → Reports asked [] report → ReportsAsked given e e report
+told_alone given e asked report asks reports = record { asked = asked; asks = asks; told = []; said = appends_none e e refl; reports = reports }
+
 -- a delivered report that ends clean or with diagnostics says what such a report says
 delivered : (Says : Report → Type 0) (report : Report) (s : Status) (out_old out_new err_old err_new : Option (List ℕ))
-    → (HasAnswer report.status → Says report)
+    → (IsAnswerStatus report.status → Says report)
     → (s ≡ status.Refused) ⊎ ((s ≡ report.status) × IsWritten report out_old out_new err_old err_new)
     → EndsWithAnswer (status_number s)
     → Says report × IsWritten report out_old out_new err_old err_new × (status_number s ≡ status_number report.status)
-delivered Says report s a b c d says (inl refused) (inl ends) = absurd cc
-delivered Says report s a b c d says (inl refused) (inr ends) = absurd cc
 delivered Says report status.Clean a b c d says (inr written) ends = (says (inl (sym written.0)), written.1, ap status_number written.0)
 delivered Says report status.Diagnostics a b c d says (inr written) ends = (says (inr (sym written.0)), written.1, ap status_number written.0)
-delivered Says report status.Refused a b c d says (inr written) (inl ends) = absurd cc
-delivered Says report status.Refused a b c d says (inr written) (inr ends) = absurd cc
-delivered Says report status.ChainRefused a b c d says (inr written) (inl ends) = absurd cc
-delivered Says report status.ChainRefused a b c d says (inr written) (inr ends) = absurd cc
-delivered Says report status.OutOfMemory a b c d says (inr written) (inl ends) = absurd cc
-delivered Says report status.OutOfMemory a b c d says (inr written) (inr ends) = absurd cc
+delivered Says report s a b c d says (inl refused) (inl ends) = absurd cc
+delivered Says report s a b c d says (inl refused) (inr ends) = absurd cc
+delivered Says report s a b c d says written (inl ends) = absurd cc
+delivered Says report s a b c d says written (inr ends) = absurd cc
 
 -- the report on what the words ask for, or help
 pub prints : (given : List (List ℕ)) (report : Report) (s : Status) (out_old out_new err_old between err_new : Option (List ℕ))
-    → (HasAnswer report.status → ReportsAsked given err_old between report ⊎ TellsHelp given err_old between report)
+    → (IsAnswerStatus report.status → ReportsAsked given err_old between report ⊎ TellsHelp given err_old between report)
     → (s ≡ status.Refused) ⊎ ((s ≡ report.status) × IsWritten report out_old out_new between err_new)
     → EndsWithAnswer (status_number s)
     → Prints given (status_number s) out_old out_new err_old err_new
@@ -60,12 +61,8 @@ plain_reports subcommand given names plain before after report (inr help) = absu
 
 -- plain words have nothing said before the report
 plain_silent : (asked : Words) → HasDefaults asked → (told : List ℕ) (report : Report) → Reports asked told report → told ≡ []
-plain_silent (words.Scratch w) plain told report reports = reports.0
-plain_silent (words.Check w) plain told report reports = reports.0
 plain_silent (words.Audit w) plain told report reports = reports.told_is ∙ ap (λ progress. told_of progress (file_names w) reports.each) plain.1
-plain_silent (words.Show w) plain told report reports = reports.0
-plain_silent (words.Why w) plain told report reports = reports.0
-plain_silent (words.Explain w) plain told report reports = reports.0
+plain_silent asked plain told report reports = reports.0
 
 -- the report on what plain words ask for
 pub prints_plain : (subcommand : Subcommand) (given names : List (List ℕ)) (number : ℕ) (out_old out_new err_old err_new : Option (List ℕ))
@@ -101,13 +98,10 @@ pub prints_refusal : {File : Type 0} (held : File → Option (List ℕ)) (given 
     → (s ≡ status.Refused) ⊎ ((s ≡ report.status) × IsWritten report out_old out_new between err_new)
     → status_number s ≡ 3
     → PrintsRefusal held given out_old out_new err_old err_new
-prints_refusal held given report status.Clean a b c m d reports written number = absurd cc
-prints_refusal held given report status.Diagnostics a b c m d reports written number = absurd cc
-prints_refusal held given report status.Refused a b c m d reports written number = absurd cc
 prints_refusal held given report status.ChainRefused a b c m d reports (inl refused) number = absurd cc
 prints_refusal held given report status.ChainRefused a b c m d reports (inr written) number =
     record { report = report; between = m; reports = reports (sym written.0); written = written.1 }
-prints_refusal held given report status.OutOfMemory a b c m d reports written number = absurd cc
+prints_refusal held given report s a b c m d reports written number = absurd cc
 
 -- out of memory is no refused chain
 pub no_refusal : (s : Status) (Said : Type 0) → (s ≡ status.Refused) ⊎ ((s ≡ status.OutOfMemory) × Said) → status_number s ≡ 3 → ⊥

@@ -3,7 +3,7 @@ use Rattle.std.proofs.Common.{◌≡◌, ◌≢◌, ◌∷◌, [], List, ℕ, Op
 use Rattle.std.specs.Prelude.{◌==◌}
 use Rattle.mj_project.specs.Projects.{SourceFile, names_of}
 use Rattle.profiles.specs.declared.profile.Profile.{Profile}
-use Rattle.providers.specs.AnswerValues.{IsAnswerValue}
+use Rattle.mini_java.specs.AnswerValues.{IsAnswerValue}
 use Rattle.result_bytes.specs.declared.value.Value.{Value}
 use Rattle.program_run.specs.Audits.{IsAcceptedOver, IsProjectOf}
 

@@ -1,12 +1,6 @@
 -- What a stream holds after a text was written and flushed.
 use Rattle.std.proofs.Common.{◌≡◌, ◌∙◌, ℕ, List, [], ◌++◌, Option, Some, None, sym, ap, subst, append-nil, append_assoc}
-use Rattle.std.specs.Io.KnownBytes.{Appends, Keeps}
-
-pub appends_kept : (before between after : Option (List ℕ)) (bytes : List ℕ) → Appends before between bytes → Keeps between after → Appends before after bytes
-appends_kept None between after bytes grown kept = tt
-appends_kept (Some x) None after bytes grown kept = absurd grown
-appends_kept (Some x) (Some y) None bytes grown kept = absurd kept
-appends_kept (Some x) (Some y) (Some z) bytes grown kept = kept ∙ grown
+use Rattle.std.specs.Io.KnownBytes.{Appends}
 
 -- one text behind another
 pub appends_both : (before between after : Option (List ℕ)) (first second : List ℕ) → Appends before between first → Appends between after second

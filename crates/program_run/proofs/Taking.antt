@@ -1,10 +1,6 @@
 -- Files that are taken by their names, one after the other.
 use Rattle.std.proofs.Common.{◌≡◌, ◌∷◌, [], ◌++◌, List, ℕ, suc, ◌<◌, Contains, length, map, slice_get, Some, refl, sym, ap, subst, ◌∙◌, arith}
-use Rattle.std.proofs.lemmas.List.{append-nil}
-
-pub many_map : {A B : Type 0} (f : A → B) (ys : List A) → length (map f ys) ≡ length ys
-many_map f [] = refl
-many_map f (y ∷ ys) = ap suc (many_map f ys)
+use Rattle.std.proofs.lemmas.List.{append-nil, length-map}
 
 pub one_more : {A : Type 0} (xs : List A) (x : A) → length (xs ++ x ∷ []) ≡ suc (length xs)
 one_more [] x = refl
@@ -13,7 +9,7 @@ one_more (y ∷ xs) x = ap suc (one_more xs x)
 -- one more file for one more name
 pub many_more : {A B C : Type 0} (f : A → B) (xs : List C) (ys : List A) (x : C) (y : A) → length xs ≡ length (map f ys) → length (xs ++ x ∷ []) ≡ length (map f (ys ++ y ∷ []))
 many_more f xs ys x y same =
-    one_more xs x ∙ (ap suc (same ∙ many_map f ys) ∙ (sym (one_more ys y) ∙ sym (many_map f (ys ++ y ∷ []))))
+    one_more xs x ∙ (ap suc (same ∙ length-map ys f) ∙ (sym (one_more ys y) ∙ sym (length-map (ys ++ y ∷ []) f)))
 
 behind : {A B : Type 0} (f : A → B) (ys : List A) (y : A) (rest : List A) → slice_get (map f (ys ++ y ∷ rest)) (length ys) ≡ Some (f y)
 behind f [] y rest = refl
@@ -22,7 +18,7 @@ behind f (x ∷ ys) y rest = behind f ys y rest
 -- the name behind those whose files were taken
 pub named_at : {A B : Type 0} (f : A → B) (ys : List A) (y : A) (rest all : List A) (n : ℕ) → n ≡ length (map f ys) → ys ++ y ∷ rest ≡ all → slice_get (map f all) n ≡ Some (f y)
 named_at f ys y rest all n many is =
-    subst (λ (l : List _). slice_get (map f l) n ≡ Some (f y)) is (subst (λ (k : ℕ). slice_get (map f (ys ++ y ∷ rest)) k ≡ Some (f y)) (sym (many ∙ many_map f ys)) (behind f ys y rest))
+    subst (λ (l : List _). slice_get (map f l) n ≡ Some (f y)) is (subst (λ (k : ℕ). slice_get (map f (ys ++ y ∷ rest)) k ≡ Some (f y)) (sym (many ∙ length-map ys f)) (behind f ys y rest))
 
 contained : {A B : Type 0} (f : A → B) (ys : List A) (y : A) (rest : List A) → Contains (map f (ys ++ y ∷ rest)) (f y)
 contained f [] y rest = (0, omega arith, refl)
@@ -43,14 +39,10 @@ one_of f ys y rest all is = subst (λ (l : List _). Contains (map f l) (f y)) is
 pub fewer : {A : Type 0} (ys : List A) (y : A) (rest all : List A) → ys ++ y ∷ rest ≡ all → length ys < length all
 fewer ys y rest all is = subst (λ (l : List _). length ys < length l) is (some_behind ys y rest)
 
-pub nothing_left : {A : Type 0} (xs : List A) → length xs ≡ 0 → xs ≡ []
-nothing_left [] e = refl
-nothing_left (x ∷ xs) e = absurd (omega (arith, e))
-
 pub all_of : {A : Type 0} (ys rest all : List A) → rest ≡ [] → ys ++ rest ≡ all → ys ≡ all
 all_of ys rest all none is = sym (append-nil ys) ∙ (ap (λ (l : List _). ys ++ l) (sym none) ∙ is)
 
 -- there are as many files as names
 pub as_many : {A B C : Type 0} (f : A → C) (g : B → C) (xs : List A) (ys : List B) (m n : ℕ) → m ≡ length xs → n ≡ length ys → map f xs ≡ map g ys → m ≡ n
 as_many f g xs ys m n xs_many ys_many same =
-    xs_many ∙ (sym (many_map f xs) ∙ (ap (λ (l : List _). length l) same ∙ (many_map g ys ∙ sym ys_many)))
+    xs_many ∙ (sym (length-map xs f) ∙ (ap (λ (l : List _). length l) same ∙ (length-map ys g ∙ sym ys_many)))

@@ -109,7 +109,7 @@ pub record AuditsTo (asked : AuditWords) (told : List ℕ) (report : Report) : T
 -- ---- refused
 
 -- The auditor took these files, in front of those of other names, and said what is wanted of each.
-pub record TookFront (names : List (List ℕ)) (progress : Bool) (before after : Option (List ℕ))
+pub record TookFirst (names : List (List ℕ)) (progress : Bool) (before after : Option (List ℕ))
     (auditor : ChainAuditor) : Type 0 where
   pub files : List (List ℕ)
   pub taken : HasTaken files auditor
@@ -118,7 +118,7 @@ pub record TookFront (names : List (List ℕ)) (progress : Bool) (before after :
 -- The auditor took all files of these names, and said what is wanted of each.
 pub record TookAll (names : List (List ℕ)) (progress : Bool) (before after : Option (List ℕ))
     (auditor : ChainAuditor) : Type 0 where
-  pub front : TookFront names progress before after auditor
+  pub front : TookFirst names progress before after auditor
   pub many : length front.files ≡ length names
 
 -- Behind the files taken an opened file is refused, by the bytes that it held where its type tells
@@ -179,7 +179,7 @@ TakeFails held front name progress before after why = TellFails progress why
 pub record StopsAt {File : Type 0} (held : File → Option (List ℕ)) (names : List (List ℕ))
     (progress : Bool) (before after : Option (List ℕ)) (failure : Failure) : Type 0 where
   pub auditor : ChainAuditor
-  pub took : TookFront names progress before after auditor
+  pub took : TookFirst names progress before after auditor
   pub name : List ℕ
   pub here : slice_get names (length took.files) ≡ Some name
   pub fails : FailsBehind held took.files name failure

@@ -1,5 +1,5 @@
 -- How a run ends.
-use Rattle.std.specs.Prelude.{Bool, true, false}
+use Rattle.std.specs.Prelude.{ℕ, Bool, true, false, [], ◌∷◌, Contains}
 use Rattle.audit_graph.specs.declared.fault.AuditFault.TheVariants as chain
 use Rattle.mj_project.specs.declared.project.ProjectFault.TheVariants as project
 use Rattle.session_file.specs.declared.fault.FileFault.TheVariants as file
@@ -7,7 +7,6 @@ use Rattle.program_run.specs.declared.failure.Failure.{Failure}
 use Rattle.program_run.specs.declared.failure.Failure.TheVariants as failure
 use Rattle.program_run.specs.declared.report.Status.{Status}
 use Rattle.program_run.specs.declared.report.Status.TheVariants as status
-use Rattle.cached_check.specs.declared.fault.CheckFault.TheVariants as cache
 use Rattle.command_line.specs.declared.asked.WordsFault.TheVariants as words
 
 -- an answer without diagnostics is clean
@@ -21,6 +20,7 @@ status_of_failure (failure.Words (words.Help text)) = status.Clean
 status_of_failure (failure.Words (words.Refused text)) = status.Refused
 status_of_failure (failure.Words words.OutOfMemory) = status.OutOfMemory
 status_of_failure (failure.CannotRead name) = status.Refused
+status_of_failure (failure.CannotWrite notes path) = status.Refused
 status_of_failure failure.Untold = status.Refused
 status_of_failure (failure.NoRecord key) = status.Refused
 status_of_failure (failure.UnknownCode code) = status.Refused
@@ -30,7 +30,8 @@ status_of_failure (failure.Chain chain.OutOfMemory) = status.OutOfMemory
 status_of_failure (failure.Chain fault) = status.ChainRefused
 status_of_failure (failure.SessionFile file.OutOfMemory) = status.OutOfMemory
 status_of_failure (failure.SessionFile fault) = status.Refused
-status_of_failure (failure.Cache (cache.CannotRead path)) = status.Refused
-status_of_failure (failure.Cache (cache.CannotWrite notes path)) = status.Refused
-status_of_failure (failure.Cache cache.OutOfMemory) = status.OutOfMemory
 status_of_failure failure.OutOfMemory = status.OutOfMemory
+
+-- clean, diagnostics, refused, a refused chain, or out of memory
+abbrev pub IsStatus : ℕ → Type 0
+IsStatus status = Contains (0 ∷ 1 ∷ 2 ∷ 3 ∷ 4 ∷ []) status

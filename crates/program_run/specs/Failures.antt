@@ -1,9 +1,11 @@
 -- Why a run has no answer.
-use Rattle.std.specs.Prelude.{◌≡◌, ◌⊎◌, ℕ, List, Option, Some, IsTrue, length, map, option_map, String, string_bytes}
+use Rattle.std.specs.Prelude.{◌≡◌, ◌⊎◌, ℕ, List, Option, Some, None, Contains, IsTrue, length, map, option_map, String, string_bytes}
 use Rattle.std.specs.declared.alloc.Global.{Global}
-use Rattle.cached_check.specs.Checks.{IsBeginning, IsUnbegun, IsUnkept}
+use Rattle.session_cache.specs.Starts.{IsUnreadableCache, path_of}
+use Rattle.session_cache.specs.declared.fault.CacheReadFault.TheVariants as cache
+use Rattle.session_cache.specs.declared.place.SessionPlace.{SessionPlace}
+use Rattle.cached_check.specs.Checks.{IsBeginning}
 use Rattle.cached_check.specs.declared.beginning.Beginning.{Beginning}
-use Rattle.cached_check.specs.declared.fault.CheckFault.{CheckFault}
 use Rattle.code_words.specs.Explained.{first_unknown}
 use Rattle.command_line.specs.CommandLine.{Asks}
 use Rattle.command_line.specs.Plain.{asks_plainly}
@@ -14,32 +16,33 @@ use Rattle.command_line.specs.declared.asked.WordsFault.{WordsFault}
 use Rattle.command_line.specs.declared.asked.WordsFault.TheVariants as refusal
 use Rattle.sessions.specs.Sessions.{SessionValue}
 use Rattle.program_run.specs.Audits.{AuditFails}
-use Rattle.program_run.specs.Shows.{LacksNamed, RefusesBehind, RefusesFile, of_words}
+use Rattle.program_run.specs.Shows.{LacksNamed, RefusesOneOf, RefusesFile, of_words}
 use Rattle.program_run.specs.Unread.{AreUnread, NamesFail}
 use Rattle.program_run.specs.declared.failure.Failure.{Failure}
 use Rattle.program_run.specs.declared.failure.Failure.TheVariants as failure
 
 -- ---- subcommands
 
--- Where the session begins in the cache of this folder it isn't kept.
-pub record KeepsNone (dir : List ℕ) (fault : CheckFault) : Type 0 where
+-- what isn't written: the file of a session, or the folder of the cache, past whose last chain there is
+-- no place for it
+abbrev pub unwritten_path : List ℕ → Option SessionPlace → List ℕ
+unwritten_path dir (Some place) = path_of dir place
+unwritten_path dir None = dir
+
+-- The session that begins in the cache of this folder, with these notes, isn't kept, since this can't
+-- be written.
+pub record IsUnkept (dir : List ℕ) (notes path : String Global) : Type 0 where
   pub beginning : Beginning
   pub begins : IsBeginning dir beginning
-  pub unkept : IsUnkept dir beginning.place beginning.notes fault
+  pub told : beginning.notes ≡ notes
+  pub unwritten : string_bytes path ≡ unwritten_path dir beginning.place
 
--- the cache of this folder has no beginning for a session, or doesn't keep it
-abbrev pub CacheFails : List ℕ → CheckFault → Type 0
-CacheFails dir fault = IsUnbegun dir fault ⊎ KeepsNone dir fault
-
--- why a project isn't checked over the cache of this folder: the cache, or memory ran out
-abbrev pub ProjectFails : List ℕ → Failure → Type 0
-ProjectFails dir (failure.Cache fault) = CacheFails dir fault
-ProjectFails dir failure.OutOfMemory = Unit {0}
-ProjectFails dir why = ⊥
-
--- why `check` fails over the cache of this folder, on files of these names: the cache, or the files
+-- why `check` fails over the cache of this folder, on files of these names: one of them or the cache
+-- can't be read, they are no project, the session isn't kept, or memory ran out
 abbrev pub CheckFails : List ℕ → List (List ℕ) → Failure → Type 0
-CheckFails dir names (failure.Cache fault) = CacheFails dir fault
+CheckFails dir names (failure.CannotRead path) =
+    Contains names (string_bytes path) ⊎ IsUnreadableCache dir (cache.CannotRead path)
+CheckFails dir names (failure.CannotWrite notes path) = IsUnkept dir notes path
 CheckFails dir names why = NamesFail names why
 
 -- why the bytes of a file aren't shown over the previous session: they are the file of no session, or
@@ -51,18 +54,22 @@ IsUnshown past bytes _ = ⊥
 
 -- why so many files aren't shown
 abbrev pub AreUnshown : ℕ → Failure → Type 0
-AreUnshown many (failure.SessionFile fault) = RefusesBehind many fault
+AreUnshown many (failure.SessionFile fault) = RefusesOneOf many fault
 AreUnshown many failure.OutOfMemory = Unit {0}
 AreUnshown many _ = ⊥
 
--- why `show` and `why` fail on files of these names: one can't be read; else one isn't that of a
--- session over the one before; else the last has no record of the key that was named; or memory ran
--- out
+-- why there is no last session of files of these names: one can't be read; else one isn't that of a
+-- session over the one before; or memory ran out
+abbrev pub LastFails : List (List ℕ) → Failure → Type 0
+LastFails names (failure.SessionFile fault) = RefusesOneOf (length names) fault
+LastFails names why = AreUnread names why
+
+-- why `show` and `why` fail on files of these names: there is no last session, or it has no record of
+-- the key that was named
 abbrev pub ShowFails : List (List ℕ) → Option (String Global) → Failure → Type 0
-ShowFails names of (failure.SessionFile fault) = RefusesBehind (length names) fault
 ShowFails names of (failure.NoRecord key) =
     LacksNamed (length names) (of_words of) (string_bytes key)
-ShowFails names of why = AreUnread names why
+ShowFails names of why = LastFails names why
 
 -- why codes aren't explained: one is unknown, or memory ran out
 abbrev pub ExplainFails : List (String Global) → Failure → Type 0

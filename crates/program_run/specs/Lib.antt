@@ -3,9 +3,7 @@ pub mod Believed
 pub mod Checks
 pub mod Endings
 pub mod Failures
-pub mod Lines
 pub mod Refusals
 pub mod Runs
 pub mod Shows
-pub mod Statuses
 pub mod Unread

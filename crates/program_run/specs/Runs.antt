@@ -21,7 +21,7 @@ use Rattle.program_run.specs.Audits.{AuditFails, AuditsTo, StopsAt}
 use Rattle.program_run.specs.Checks.{ChecksAsked}
 use Rattle.program_run.specs.Endings.{status_of_answer}
 use Rattle.program_run.specs.Failures.{MayFail}
-use Rattle.program_run.specs.Refusals.{AreNotes, chain_words, refused_line, unreadable_line}
+use Rattle.program_run.specs.Refusals.{IsFailureText, chain_words, refused_line, unreadable_line}
 use Rattle.program_run.specs.Shows.{SaysWhy, ShowsLast}
 use Rattle.program_run.specs.declared.failure.Failure.{Failure}
 use Rattle.program_run.specs.declared.failure.Failure.TheVariants as failure
@@ -57,8 +57,8 @@ pub record IsWritten (report : Report)
   pub answer : Appends out_old out_new (string_bytes report.answer)
 
 -- the run has an answer, with diagnostics or without
-abbrev pub HasAnswer : Status → Type 0
-HasAnswer s = (s ≡ status.Clean) ⊎ (s ≡ status.Diagnostics)
+abbrev pub IsAnswerStatus : Status → Type 0
+IsAnswerStatus s = (s ≡ status.Clean) ⊎ (s ≡ status.Diagnostics)
 
 abbrev pub EndsWithAnswer : ℕ → Type 0
 EndsWithAnswer number = (number ≡ 0) ⊎ (number ≡ 1)
@@ -162,5 +162,5 @@ pub record ReportsFailure {File : Type 0} (held : File → Option (List ℕ)) (g
     (before after : Option (List ℕ)) (report : Report) : Type 0 where
   pub why : Failure
   pub fails : MayFail held given before after why
-  pub notes : AreNotes why (string_bytes report.notes)
+  pub notes : IsFailureText why (string_bytes report.notes)
   pub silent : string_bytes report.answer ≡ []

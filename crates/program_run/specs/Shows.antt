@@ -7,9 +7,9 @@ use Rattle.sessions.specs.Sessions.{AreTaken, IsSession, IsTakenFrom, SessionVal
 use Rattle.graph_rules.specs.Settings.{crossing_kinds}
 use Rattle.query_rules.specs.Queries.{is_by_profile}
 use Rattle.item_ids.specs.declared.kind.Kind.{Kind}
-use Rattle.session_text.specs.SessionText.{key_words, text_of}
+use Rattle.session_text.specs.SessionText.{key_words, text_of_session}
 use Rattle.session_causes.specs.CauseTexts.{IsCausesText, IsWhyText}
-use Rattle.session_graph.specs.SessionGraph.{IsGraph}
+use Rattle.session_graph.specs.SessionGraph.{IsDotText}
 use Rattle.session_file.specs.Reading.{file_after}
 use Rattle.session_file.specs.declared.fault.FileFault.{FileFault}
 use Rattle.session_file.specs.declared.fault.FileFault.TheVariants as file
@@ -18,12 +18,12 @@ use Rattle.command_line.specs.declared.asked.ShowWords.{ShowWords}
 use Rattle.command_line.specs.declared.asked.WhyWords.{WhyWords}
 use Rattle.program_run.specs.declared.failure.Failure.{Failure}
 use Rattle.program_run.specs.declared.failure.Failure.TheVariants as failure
-use Rattle.program_run.specs.declared.last.LastPair.{LastPair}
+use Rattle.program_run.specs.declared.subcommands.last.LastPair.{LastPair}
 use Rattle.program_run.specs.declared.report.Report.{Report}
 use Rattle.program_run.specs.declared.report.Status.TheVariants as status
 
 -- It is the last of so many sessions, each of which is taken from the one before.
-pub record IsLastOf (many : ℕ) (last : Option SessionValue) : Type 0 where
+pub record IsLastOfMany (many : ℕ) (last : Option SessionValue) : Type 0 where
   pub sessions : List SessionValue
   pub each : AllByRecursion IsSession sessions
   pub taken : AreTaken None sessions
@@ -31,17 +31,17 @@ pub record IsLastOf (many : ℕ) (last : Option SessionValue) : Type 0 where
   pub is_last : last_of None sessions ≡ last
 
 -- It is the last of so many sessions, and this the one before it, if there is one.
-pub record AreLastOf (many : ℕ) (past : Option SessionValue) (s : SessionValue) : Type 0 where
+pub record AreLastOfMany (many : ℕ) (past : Option SessionValue) (s : SessionValue) : Type 0 where
   pub front : ℕ
   pub one_more : many ≡ front + 1
-  pub before : IsLastOf front past
+  pub before : IsLastOfMany front past
   pub session : IsSession s
   pub taken : IsTakenFrom past s
 
 -- the last two of so many sessions, if there are any
 abbrev pub IsLastPair : ℕ → Option LastPair → Type 0
 IsLastPair many None = many ≡ 0
-IsLastPair many (Some pair) = AreLastOf many pair.past pair.session
+IsLastPair many (Some pair) = AreLastOfMany many pair.past pair.session
 
 abbrev pub last_session : Option LastPair → Option SessionValue
 last_session = option_map (λ pair. pair.session)
@@ -61,36 +61,36 @@ abbrev pub of_words : Option (String Global) → Option (List ℕ)
 of_words = option_map string_bytes
 
 -- no record of the session has a key with these words, or memory ran out
-abbrev pub LacksKey : List ℕ → SessionValue → Failure → Type 0
-LacksKey words s (failure.NoRecord key) =
+abbrev pub LacksRecord : List ℕ → SessionValue → Failure → Type 0
+LacksRecord words s (failure.NoRecord key) =
     (string_bytes key ≡ words) × (index_named words s ≡ None)
-LacksKey words s failure.OutOfMemory = Unit {0}
-LacksKey words s _ = ⊥
+LacksRecord words s failure.OutOfMemory = Unit {0}
+LacksRecord words s _ = ⊥
 
 -- ---- shown
 
 -- the index of the record within which the graph lies, if one was named
-abbrev pub IsRoot : Option (List ℕ) → SessionValue → Option ℕ → Type 0
-IsRoot None s root = root ≡ None
-IsRoot (Some words) s root = (i : ℕ) × (index_named words s ≡ Some i) × (root ≡ Some i)
+abbrev pub IsNamedRoot : Option (List ℕ) → SessionValue → Option ℕ → Type 0
+IsNamedRoot None s root = root ≡ None
+IsNamedRoot (Some words) s root = (i : ℕ) × (index_named words s ≡ Some i) × (root ≡ Some i)
 
 -- The graph of the session beside the one before, within the record that was named, if one was.
 pub record IsGraphOf (of : Option (List ℕ)) (past : Option SessionValue) (s : SessionValue)
     (text : List ℕ) : Type 0 where
   pub root : Option ℕ
-  pub named : IsRoot of s root
-  pub graph : IsGraph past s root text
+  pub named : IsNamedRoot of s root
+  pub graph : IsDotText past s root text
 
 -- the graph where it is wanted, else the list of the records
 abbrev pub IsShown : Bool → Option (List ℕ) → Option SessionValue → SessionValue → List ℕ → Type 0
 IsShown true of past s text = IsGraphOf of past s text
-IsShown false of past s text = text ≡ text_of s
+IsShown false of past s text = text ≡ text_of_session s
 
 -- What is shown of the last of the sessions stands on standard output alone.
 pub record ShowsLast (asked : ShowWords) (report : Report) : Type 0 where
   pub past : Option SessionValue
   pub session : SessionValue
-  pub last : AreLastOf (vec_len asked.files) past session
+  pub last : AreLastOfMany (vec_len asked.files) past session
   pub text : IsShown asked.dot (of_words asked.of) past session (string_bytes report.answer)
   pub notes : string_bytes report.notes ≡ []
   pub status : report.status ≡ status.Clean
@@ -103,17 +103,17 @@ abbrev pub crossing_of : Option SessionValue → SessionValue → List Kind
 crossing_of past s = crossing_kinds is_by_profile s.terms.profile past
 
 -- why each query was executed, or the causes of the record that was named
-abbrev pub IsSaid : Option (List ℕ) → Option SessionValue → SessionValue → List ℕ → Type 0
-IsSaid None past s text = IsWhyText past s (crossing_of past s) text
-IsSaid (Some words) past s text = (i : ℕ) × (index_named words s ≡ Some i)
+abbrev pub SaysCauses : Option (List ℕ) → Option SessionValue → SessionValue → List ℕ → Type 0
+SaysCauses None past s text = IsWhyText past s (crossing_of past s) text
+SaysCauses (Some words) past s text = (i : ℕ) × (index_named words s ≡ Some i)
     × IsCausesText past s (crossing_of past s) (key_at s.records i) text
 
 -- What is said of the last of the sessions stands on standard output alone.
 pub record SaysWhy (asked : WhyWords) (report : Report) : Type 0 where
   pub past : Option SessionValue
   pub session : SessionValue
-  pub last : AreLastOf (vec_len asked.files) past session
-  pub text : IsSaid (of_words asked.of) past session (string_bytes report.answer)
+  pub last : AreLastOfMany (vec_len asked.files) past session
+  pub text : SaysCauses (of_words asked.of) past session (string_bytes report.answer)
   pub notes : string_bytes report.notes ≡ []
   pub status : report.status ≡ status.Clean
 
@@ -125,11 +125,11 @@ RefusesFile past bytes file.OutOfMemory = Unit {0}
 RefusesFile past bytes fault = file_after past bytes ≡ Err fault
 
 -- Of so many files one is refused over the last session of those in front.
-pub record RefusesBehind (many : ℕ) (fault : FileFault) : Type 0 where
+pub record RefusesOneOf (many : ℕ) (fault : FileFault) : Type 0 where
   pub front : ℕ
   pub within : front < many
   pub past : Option SessionValue
-  pub last : IsLastOf front past
+  pub last : IsLastOfMany front past
   pub bytes : List ℕ
   pub refused : RefusesFile past bytes fault
 
@@ -137,7 +137,7 @@ pub record RefusesBehind (many : ℕ) (fault : FileFault) : Type 0 where
 pub record LacksNamed (many : ℕ) (of : Option (List ℕ)) (words : List ℕ) : Type 0 where
   pub past : Option SessionValue
   pub session : SessionValue
-  pub last : AreLastOf many past session
+  pub last : AreLastOfMany many past session
   pub named : of ≡ Some words
   pub lacks : index_named words session ≡ None
 

@@ -1,22 +1,29 @@
--- Why files can't be read, or are no project.
+-- Why files or the cache can't be read, or files are no project.
 use Rattle.std.specs.Prelude.{◌≡◌, ◌≢◌, ℕ, List, Contains, string_bytes}
 use Rattle.mj_project.specs.Projects.{SourceFile, Refuses, names_of}
 use Rattle.mj_project.specs.declared.project.ProjectFault.{ProjectFault}
 use Rattle.mj_project.specs.declared.project.ProjectFault.TheVariants as project
+use Rattle.session_cache.specs.declared.fault.CacheReadFault.{CacheReadFault}
+use Rattle.session_cache.specs.declared.fault.CacheReadFault.TheVariants as cache
 use Rattle.program_run.specs.declared.failure.Failure.{Failure}
 use Rattle.program_run.specs.declared.failure.Failure.TheVariants as failure
 
 -- the file of this name can't be read, or memory ran out
-abbrev pub IsUnread : List ℕ → Failure → Type 0
-IsUnread name (failure.CannotRead path) = string_bytes path ≡ name
-IsUnread name failure.OutOfMemory = Unit {0}
-IsUnread name why = ⊥
+abbrev pub IsUnreadFile : List ℕ → Failure → Type 0
+IsUnreadFile name (failure.CannotRead path) = string_bytes path ≡ name
+IsUnreadFile name failure.OutOfMemory = Unit {0}
+IsUnreadFile name why = ⊥
 
 -- the file of one of these names can't be read, or memory ran out
 abbrev pub AreUnread : List (List ℕ) → Failure → Type 0
 AreUnread names (failure.CannotRead path) = Contains names (string_bytes path)
 AreUnread names failure.OutOfMemory = Unit {0}
 AreUnread names why = ⊥
+
+-- the failure of a run whose cache isn't read
+abbrev pub cache_failure : CacheReadFault → Failure
+cache_failure (cache.CannotRead path) = failure.CannotRead path
+cache_failure cache.OutOfMemory = failure.OutOfMemory
 
 -- Files of these names are no project for this reason, unless it is that memory ran out.
 pub record RefusesNames (names : List (List ℕ)) (fault : ProjectFault) : Type 0 where

@@ -1,11 +1,13 @@
 //! Why a run ends before it has an answer.
 ghost use Rattle.std.specs.Prelude.{◌≡◌};
+ghost use Rattle.program_run.specs.Unread.{cache_failure};
 ghost use Rattle.program_run.specs.declared.failure.Failure.TheVariants as failure;
 
 use audit_graph::AuditFault;
-use cached_check::CheckFault;
 use command_line::WordsFault;
+use mini_java::DriveFault;
 use mj_rules::ProjectFault;
+use session_cache::CacheReadFault;
 use session_file::FileFault;
 use std::alloc::{AllocError, AllocFailed};
 
@@ -14,8 +16,10 @@ use std::alloc::{AllocError, AllocFailed};
 pub enum Failure {
     /// The command line is refused, or asks for help.
     Words(WordsFault),
-    /// The file of this name can't be read.
+    /// This file or folder can't be read.
     CannotRead(String),
+    /// Behind these notes: this file or folder can't be written.
+    CannotWrite(String, String),
     /// Standard error takes no line on a file that was taken.
     Untold,
     /// The session has no record of the key that these words name.
@@ -28,8 +32,6 @@ pub enum Failure {
     Chain(AuditFault),
     /// The file is that of no session.
     SessionFile(FileFault),
-    /// No session is kept in the cache.
-    Cache(CheckFault),
     /// Memory ran out.
     OutOfMemory,
 }
@@ -66,11 +68,23 @@ impl From<FileFault> for Failure {
     }
 }
 
-impl From<CheckFault> for Failure {
-    ghost from_gives = { λ fault e. e ≡ failure.Cache fault };
+impl From<CacheReadFault> for Failure {
+    ghost from_gives = { λ fault e. e ≡ cache_failure fault };
 
-    fn from(fault: CheckFault) -> Failure {
-        Failure::Cache(fault)
+    fn from(fault: CacheReadFault) -> Failure {
+        match fault {
+            CacheReadFault::CannotRead(path) => Failure::CannotRead(path),
+            CacheReadFault::OutOfMemory => Failure::OutOfMemory,
+        }
+    }
+}
+
+/// A check has workers, and room for its session: it lacks nothing but memory.
+impl From<DriveFault> for Failure {
+    ghost from_gives = { λ _ e. e ≡ failure.OutOfMemory };
+
+    fn from(_fault: DriveFault) -> Failure {
+        Failure::OutOfMemory
     }
 }
 

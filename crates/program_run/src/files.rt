@@ -1,7 +1,7 @@
 //! The files that the words name.
 ghost use Rattle.std.specs.Prelude.{◌≡◌, ◌≢◌, IfOk, IfErr, map, string_bytes};
 ghost use Rattle.std.specs.IoError.{error_kind};
-ghost use Rattle.program_run.specs.Unread.{AreUnread, IsUnread};
+ghost use Rattle.program_run.specs.Unread.{AreUnread, IsUnreadFile};
 ghost use Rattle.program_run.specs.declared.failure.Failure.TheVariants as failures;
 
 use crate::failure::Failure;
@@ -31,7 +31,7 @@ pub(crate) fn read_file<R: Files + AllocGlobal>(
     name: String,
 ) -> Result<(String, Vec<u8>), Failure>
     ensures named { IfOk result (λ file. string_bytes file.0 ≡ string_bytes name) }
-    ensures failed { IfErr result (IsUnread (string_bytes name)) }
+    ensures failed { IfErr result (IsUnreadFile (string_bytes name)) }
 {
     match fs::read(rt, name.as_str()) {
         Ok(bytes) => Ok((name, bytes)),

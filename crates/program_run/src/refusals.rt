@@ -2,13 +2,11 @@
 ghost use Rattle.std.specs.Prelude.{◌≡◌, ◌++◌, IfOk, OnOk, string_bytes};
 ghost use Rattle.session_text.specs.FaultWords.{fault_words};
 ghost use Rattle.program_run.specs.Endings.{status_of_failure};
-ghost use Rattle.program_run.specs.Lines.{refusal_words};
-ghost use Rattle.program_run.specs.Refusals.{cache_words, chain_words, no_record_line, one, refused_line, three, two, unreadable_line};
+ghost use Rattle.program_run.specs.Refusals.{chain_words, no_record_line, one_argument, refusal_words, refused_line, three_arguments, two_arguments, unreadable_line, unwritten_line};
 ghost use Rattle.program_run.specs.declared.failure.Failure.TheVariants as failure;
 ghost use Rattle.program_run.specs.declared.report.Status.TheVariants as status;
 
 use audit_graph::AuditFault;
-use cached_check::CheckFault;
 use mj_rules::ProjectFault;
 use session_file::FileFault;
 use session_text::write_fault;
@@ -20,6 +18,13 @@ pub(crate) fn unreadable(alloc: Global, name: &str) -> Result<String, AllocError
     ensures { IfOk result (λ text. string_bytes text ≡ unreadable_line name.now) }
 {
     format!(in alloc; "cannot read {name}\n")
+}
+
+/// What is said, behind the notes, of a file or folder that can't be written.
+pub(crate) fn unwritten(alloc: Global, notes: &str, path: &str) -> Result<String, AllocError>
+    ensures { IfOk result (λ text. string_bytes text ≡ unwritten_line notes.now path.now) }
+{
+    format!(in alloc; "{notes}cannot write {path}\n")
 }
 
 /// What is said of a key of which the session has no record.
@@ -45,19 +50,6 @@ pub(crate) fn refusal_text(alloc: Global, fault: ProjectFault) -> Result<String,
             format!(in alloc; "refused: 3.4 BadFileName({file})\n")
         }
         ProjectFault::OutOfMemory => Err(AllocError),
-    }
-}
-
-/// Why no session is kept. Out of memory has no text.
-pub(crate) fn cache_refusal(alloc: Global, fault: CheckFault) -> Result<String, AllocError>
-    ensures text { IfOk result (λ text. string_bytes text ≡ cache_words fault) }
-    ensures refused { IfOk result (λ _.
-        status_of_failure (failure.Cache fault) ≡ status.Refused) }
-{
-    match fault {
-        CheckFault::CannotRead(path) => unreadable(alloc, &path),
-        CheckFault::CannotWrite(notes, path) => format!(in alloc; "{notes}cannot write {path}\n"),
-        CheckFault::OutOfMemory => Err(AllocError),
     }
 }
 
@@ -120,7 +112,7 @@ fn add_chain_fault(text: &mut String, fault: AuditFault) -> Result<(), AllocErro
 // Adds a name and its argument.
 fn add_one(text: &mut String, name: &str, a: usize) -> Result<(), AllocError>
     ensures { OnOk result
-        (string_bytes text.new ≡ string_bytes text.old ++ name.now ++ one a) }
+        (string_bytes text.new ≡ string_bytes text.old ++ name.now ++ one_argument a) }
 {
     write!(text, "{name}({a})")
 }
@@ -128,7 +120,7 @@ fn add_one(text: &mut String, name: &str, a: usize) -> Result<(), AllocError>
 // Adds a name and its two arguments.
 fn add_two(text: &mut String, name: &str, a: usize, b: usize) -> Result<(), AllocError>
     ensures { OnOk result
-        (string_bytes text.new ≡ string_bytes text.old ++ name.now ++ two a b) }
+        (string_bytes text.new ≡ string_bytes text.old ++ name.now ++ two_arguments a b) }
 {
     write!(text, "{name}({a}, {b})")
 }
@@ -136,7 +128,7 @@ fn add_two(text: &mut String, name: &str, a: usize, b: usize) -> Result<(), Allo
 // Adds a name and its three arguments.
 fn add_three(text: &mut String, name: &str, a: usize, b: usize, c: usize) -> Result<(), AllocError>
     ensures { OnOk result
-        (string_bytes text.new ≡ string_bytes text.old ++ name.now ++ three a b c) }
+        (string_bytes text.new ≡ string_bytes text.old ++ name.now ++ three_arguments a b c) }
 {
     write!(text, "{name}({a}, {b}, {c})")
 }

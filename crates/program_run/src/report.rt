@@ -141,7 +141,7 @@ pub fn no_words<E: Write>(error: &io::Error, err: &mut E) -> Status
 }
 
 // Writes and flushes.
-#[tactic(auto, using(crate::proofs::Streams::appends_kept))]
+#[tactic(auto, using(session_cache::proofs::Appending::kept_behind))]
 pub(crate) fn write<W: Write>(writer: &mut W, bytes: &[u8]) -> io::Result<()>
     ensures { OnOk result (Appends (W.contents writer.old) (W.contents writer.new) bytes.now) }
 {

@@ -2,36 +2,27 @@
 ghost use Rattle.std.specs.Prelude.{◌≡◌, ◌≢◌, ◌⊎◌, ℕ, List, false, map, Some, [], IfOk, IfErr, IsTrue, string_bytes};
 ghost use Rattle.command_line.specs.CommandLine.{AsksFor};
 ghost use Rattle.command_line.specs.Plain.{asks_plainly, files_for};
-ghost use Rattle.command_line.specs.Runnable.{IsScratchable};
 ghost use Rattle.command_line.specs.declared.asked.Subcommand.{Subcommand};
-ghost use Rattle.diagnostic_lines.specs.Lines.{IsFaultText, is_clean};
-ghost use Rattle.mj_rules.specs.AnswerWords.{text_of};
 ghost use Rattle.program_run.specs.Audits.{StopsAt};
 ghost use Rattle.program_run.specs.Believed.{PrintsBelieved};
-ghost use Rattle.program_run.specs.Endings.{status_of_answer, status_of_failure};
+ghost use Rattle.program_run.specs.Endings.{IsStatus, status_of_failure};
 ghost use Rattle.program_run.specs.Failures.{MayFail};
-ghost use Rattle.program_run.specs.Refusals.{AreNotes};
-ghost use Rattle.program_run.specs.Runs.{EndsWithAnswer, HasAnswer, Prints, PrintsPlain, PrintsRefusal, ReportsAsked, ReportsFailure, ReportsOn, ReportsRefusal, ReportsUnreadable, TellsHelp};
-ghost use Rattle.program_run.specs.Statuses.{IsStatus};
-ghost use Rattle.program_run.specs.Unread.{NamesFail};
+ghost use Rattle.program_run.specs.Refusals.{IsFailureText};
+ghost use Rattle.program_run.specs.Runs.{EndsWithAnswer, IsAnswerStatus, Prints, PrintsPlain, PrintsRefusal, ReportsAsked, ReportsFailure, ReportsRefusal, ReportsUnreadable, TellsHelp};
 
-use crate::auditing::audit;
-use crate::checking::check;
-use crate::explaining::explain_codes;
 use crate::failure::Failure;
-use crate::files::read_files;
 use crate::refusals::{
-    cache_refusal, chain_refusal, file_refusal, no_record, refusal_text, unreadable,
+    chain_refusal, file_refusal, no_record, refusal_text, unreadable, unwritten,
 };
 use crate::report::{Report, Status, deliver, no_memory};
-use crate::showing::show;
-use crate::terms::profile_of;
-use crate::why::why;
+use crate::subcommands::auditing::audit;
+use crate::subcommands::checking::check;
+use crate::subcommands::explaining::explain_codes;
+use crate::subcommands::scratching::scratch;
+use crate::subcommands::showing::show;
+use crate::subcommands::why::why;
 use code_words::unknown_text;
-use command_line::{ScratchWords, Words, WordsFault, words};
-use diagnostic_lines::fault_text;
-use fault_lines::ReadProject;
-use mj_rules::{Answer, Project, answer_for_as, render};
+use command_line::{Words, WordsFault, words};
 use std::alloc::{AllocError, Global};
 use std::io::Write;
 use std::rt::Files;
@@ -80,7 +71,7 @@ fn report_of<R: Files + AllocGlobal, T: Threads + Wait + Sync, E: Write>(
     list: Vec<String>,
     err: &mut E,
 ) -> Result<Report, AllocError>
-    ensures answer { IfOk result (λ report. HasAnswer report.status
+    ensures answer { IfOk result (λ report. IsAnswerStatus report.status
         → ReportsAsked (map string_bytes list.items) (E.contents err.old) (E.contents err.new) report
         ⊎ TellsHelp (map string_bytes list.items) (E.contents err.old) (E.contents err.new) report) }
     ensures refused { IfOk result (λ report. report.status ≡ Status.ChainRefused
@@ -113,7 +104,7 @@ fn perform<R: Files + AllocGlobal, T: Threads + Wait + Sync, E: Write>(
 ) -> Result<Report, Failure>
     ensures reports { IfOk result (ReportsAsked (map string_bytes list.items)
         (E.contents err.old) (E.contents err.new)) }
-    ensures answered { IfOk result (λ report. HasAnswer report.status) }
+    ensures answered { IfOk result (λ report. IsAnswerStatus report.status) }
     ensures plain { (subcommand : Subcommand)
         → IsTrue (asks_plainly subcommand (map string_bytes list.items))
         → IfErr result (λ failure. status_of_failure failure ≢ Status.Clean) }
@@ -135,62 +126,26 @@ fn perform<R: Files + AllocGlobal, T: Threads + Wait + Sync, E: Write>(
     }
 }
 
-// The report on these files, by the rules of the profile.
-fn scratch<R: Files + AllocGlobal>(rt: &R, asked: ScratchWords) -> Result<Report, Failure>
-    requires { IsScratchable asked }
-    ensures reports { IfOk result (ReportsOn asked) }
-    ensures failed { IfErr result (NamesFail (map string_bytes asked.files.items)) }
-{
-    let alloc = rt.alloc();
-    let ScratchWords {
-        profile,
-        messages,
-        files,
-    } = asked;
-    let project = Project::new(alloc, read_files(rt, files)?)?;
-    let read = ReadProject::new(alloc, &project)?;
-    let answer = answer_for_as(alloc, profile_of(profile), &project, read.trees())?;
-    Ok(answer_report(alloc, &read, &answer, messages)?)
-}
-
-// What is written of an answer.
-fn answer_report(
-    alloc: Global,
-    project: &ReadProject,
-    answer: &Answer,
-    messages: bool,
-) -> Result<Report, AllocError>
-    ensures notes { IfOk result (λ report.
-        IsFaultText messages project.now answer.now (string_bytes report.notes)) }
-    ensures answer { IfOk result (λ report. string_bytes report.answer ≡ text_of answer.now) }
-    ensures status { IfOk result (λ report.
-        report.status ≡ status_of_answer (is_clean answer.now)) }
-{
-    Ok(Report {
-        notes: fault_text(alloc, project, answer, messages)?,
-        answer: render(alloc, answer)?,
-        status: Status::of_answer(answer),
-    })
-}
-
 // What is written of a failure. Out of memory has no text, which would take memory.
 fn failure_report(alloc: Global, failure: Failure) -> Result<Report, AllocError>
     ensures status { IfOk result (λ report. report.status ≡ status_of_failure failure) }
     ensures no_answer { IfOk result (λ report.
         report.status ≢ Status.Clean → string_bytes report.answer ≡ []) }
     ensures help { IfOk result (λ report.
-        HasAnswer report.status → (string_bytes report.notes ≡ []) × (report.status ≡ Status.Clean)) }
-    ensures notes { IfOk result (λ report. AreNotes failure (string_bytes report.notes)) }
+        IsAnswerStatus report.status → (string_bytes report.notes ≡ []) × (report.status ≡ Status.Clean)) }
+    ensures notes { IfOk result (λ report. IsFailureText failure (string_bytes report.notes)) }
     ensures told { IfOk result (λ report. report.status ≢ Status.OutOfMemory) }
 {
     match failure {
         Failure::Words(WordsFault::Help(text)) => Ok(Report::clean(alloc, text)),
         Failure::Words(WordsFault::Refused(text)) => Ok(Report::refusal(alloc, text)),
         Failure::CannotRead(name) => Ok(Report::refusal(alloc, unreadable(alloc, &name)?)),
+        Failure::CannotWrite(notes, path) => {
+            Ok(Report::refusal(alloc, unwritten(alloc, &notes, &path)?))
+        }
         Failure::Untold => Ok(Report::refusal(alloc, String::new(alloc))),
         Failure::NoRecord(key) => Ok(Report::refusal(alloc, no_record(alloc, &key)?)),
         Failure::UnknownCode(code) => Ok(Report::refusal(alloc, unknown_text(alloc, &code)?)),
-        Failure::Cache(fault) => Ok(Report::refusal(alloc, cache_refusal(alloc, fault)?)),
         Failure::Project(fault) => Ok(Report::refusal(alloc, refusal_text(alloc, fault)?)),
         Failure::Chain(fault) => Ok(Report::chain_refusal(alloc, chain_refusal(alloc, fault)?)),
         Failure::SessionFile(fault) => Ok(Report::refusal(alloc, file_refusal(alloc, fault)?)),

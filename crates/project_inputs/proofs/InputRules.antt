@@ -3,7 +3,7 @@ use Rattle.std.proofs.Common.{◌≡◌, ℕ, suc, zero, ◌<◌, List, [], ◌�
 use Rattle.std.specs.declared.alloc.Global.{Global}
 use Rattle.std.proofs.lemmas.List.Elements.{Contains-append_left, Contains-append_right, Contains-push}
 use Rattle.std.proofs.lemmas.Option.{slice_get-get_or}
-use Rattle.result_bytes.specs.Storable.{AreDistinct}
+use Rattle.result_bytes.specs.Storable.{AreDistinctNames}
 use Rattle.mj_project.specs.Projects.{SourceFile, source_view, names_of, IsFileName, IsProject}
 use Rattle.mj_project.proofs.Listed.{place_of}
 
@@ -13,14 +13,14 @@ has_first x xs = Contains-append_left (x ∷ []) xs x (Contains-push [] x)
 has_later : {X : Type 0} (x : X) (xs : List X) (z : X) → Contains xs z → Contains (x ∷ xs) z
 has_later x xs z h = Contains-append_right (x ∷ []) xs z h
 
-distinct : (names : List (List ℕ)) → ((k : ℕ) (name : List ℕ) → slice_get names k ≡ Some name → Contains (take k names) name → ⊥) → AreDistinct names
+distinct : (names : List (List ℕ)) → ((k : ℕ) (name : List ℕ) → slice_get names k ≡ Some name → Contains (take k names) name → ⊥) → AreDistinctNames names
 distinct [] h = tt
 distinct (n ∷ ns) h = (
   (λ has. let at = place_of ns n has in h (suc at.0) n at.1 (has_first n (take at.0 ns))),
   distinct ns (λ k name e c. h (suc k) name e (has_later n (take k ns) name c)),
 )
 
-pub distinct_names : (p : List SourceFile) → IsProject p → AreDistinct (names_of p)
+pub distinct_names : (p : List SourceFile) → IsProject p → AreDistinctNames (names_of p)
 distinct_names p project = distinct (names_of p) project.distinct
 
 name_at : (files : List (String Global × Vec ℕ Global)) (i : ℕ) (f : String Global × Vec ℕ Global) → i < length files → f ≡ get_or files i f

@@ -4,7 +4,8 @@ use Rattle.item_ids.specs.declared.key.Key.{Key}
 use Rattle.item_ids.specs.declared.key.Key.TheVariants as keys
 use Rattle.profiles.specs.declared.profile.Profile.{Profile}
 use Rattle.item_ids.specs.Keys.{kind_of}
-use Rattle.recorder.specs.Backed.{rank, AreLawful}
+use Rattle.item_ids.specs.Inputs.{rank}
+use Rattle.recorder.specs.Backed.{AreLawful}
 use Rattle.recorder.specs.Programs.{Tied}
 use Rattle.recorder.proofs.Rules.{program_laws, programs_alike}
 use Rattle.query_rules.specs.Meaning.{mean}

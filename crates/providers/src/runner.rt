@@ -2,8 +2,8 @@
 ghost use Rattle.std.specs.Prelude.{◌≡◌, ◌≢◌, ◌<◌, ◌++◌, ◌∷◌, [], List, None, IfOk, IfErr, OnOk, OnErr, false};
 ghost use Rattle.item_ids.specs.Keys.{kind_of};
 ghost use Rattle.item_ids.specs.declared.kind.Kind.TheVariants as kinds;
+ghost use Rattle.item_ids.specs.Inputs.{rank};
 ghost use Rattle.profiles.specs.declared.profile.Profile.{Profile};
-ghost use Rattle.recorder.specs.Backed.{rank};
 ghost use Rattle.recorder.specs.Programs.{Goes, GivesUp};
 ghost use Rattle.recorder.specs.Runs.{IsRun};
 ghost use Rattle.query_rules.specs.Meaning.{mean};

@@ -2,24 +2,24 @@
 //! the queries of whole projects.
 
 use crate::answers::{BODY_F, BODY_H, HEADER_Z, NO_HEADER_A, SUPERS_B, are_right};
-use answer_fixtures::Asked;
+use answer_fixtures::KeyParts;
 use item_ids::Kind;
 use query_fixtures::{Row, is_checked};
 use run_fixtures::Given;
 use std::test::*;
 
 const BARE_HEADER_B: Given<'static> = Given(
-    Asked(Kind::Header, "B", ""),
+    KeyParts(Kind::Header, "B", ""),
     "04010001014100000000000000000000000000000000",
 );
 
 const METHOD_OF_B: Given<'static> = Given(
-    Asked(Kind::Method, "B", "f"),
+    KeyParts(Kind::Method, "B", "f"),
     "05010101660000000000000000000000000000000000000000000000000104000000070161000000060e000000080141080000000e000000000000000d",
 );
 
 const MEMBERS_OF_B: Given<'static> = Given(
-    Asked(Kind::Members, "B", ""),
+    KeyParts(Kind::Members, "B", ""),
     "0801000000000000000101610142030141000000000000000101660142000000000000000000",
 );
 
@@ -27,12 +27,12 @@ const MEMBERS_OF_B: Given<'static> = Given(
 // the return's, and one of a local's own.
 static WELL: [Row; 3] = [
     Row {
-        query: Given(Asked(Kind::CheckBody, "B", "f"), "0a0000000000000000"),
+        query: Given(KeyParts(Kind::CheckBody, "B", "f"), "0a0000000000000000"),
         reads: &[
             METHOD_OF_B,
             MEMBERS_OF_B,
             Given(
-                Asked(Kind::Header, "A", ""),
+                KeyParts(Kind::Header, "A", ""),
                 "0401000000000000000000000000000000000000",
             ),
         ],
@@ -41,12 +41,12 @@ static WELL: [Row; 3] = [
         query: BODY_H,
         reads: &[
             Given(
-                Asked(Kind::Method, "A", "h"),
+                KeyParts(Kind::Method, "A", "h"),
                 "05010101680000000000000000000000000000000000000000000000000007000000090c00000007016700000000000000010e0000000b014200000006",
             ),
             BARE_HEADER_B,
             Given(
-                Asked(Kind::Members, "A", ""),
+                KeyParts(Kind::Members, "A", ""),
                 "0801000000000000000000000000000000020167014100000000000000010301410001680141000000000000000000",
             ),
             SUPERS_B,
@@ -56,25 +56,25 @@ static WELL: [Row; 3] = [
         query: BODY_F,
         reads: &[
             Given(
-                Asked(Kind::Method, "A", "f"),
+                KeyParts(Kind::Method, "A", "f"),
                 "05010101660301410000000000000002016203014200000004016303014300000007000000000000000101780301410000000b0000000000000002040000000f01610000000e0b00000010016204000000130178000000120b0000001401610b00000017016300000016",
             ),
             Given(
-                Asked(Kind::Header, "A", ""),
+                KeyParts(Kind::Header, "A", ""),
                 "040100000000000000000001016103014100000000000000010166",
             ),
             BARE_HEADER_B,
             Given(
-                Asked(Kind::Header, "C", ""),
+                KeyParts(Kind::Header, "C", ""),
                 "04010001014100000000000000000000000000000000",
             ),
             Given(
-                Asked(Kind::Members, "A", ""),
+                KeyParts(Kind::Members, "A", ""),
                 "08010000000000000001016101410301410000000000000001016601410000000000000002030142030143030141",
             ),
             SUPERS_B,
             Given(
-                Asked(Kind::Supers, "C", ""),
+                KeyParts(Kind::Supers, "C", ""),
                 "070100000000000000020143014100",
             ),
         ],
@@ -87,60 +87,63 @@ static WELL: [Row; 3] = [
 static AT_FAULT: [Row; 4] = [
     Row {
         query: Given(
-            Asked(Kind::CheckBody, "B", "f"),
+            KeyParts(Kind::CheckBody, "B", "f"),
             "0a0000000000000001030166000000080131",
         ),
         reads: &[METHOD_OF_B, MEMBERS_OF_B, NO_HEADER_A],
     },
     Row {
         query: Given(
-            Asked(Kind::CheckBody, "M", "main"),
+            KeyParts(Kind::CheckBody, "M", "main"),
             "0a000000000000000203046d61696e00000013013003046d61696e00000017012f",
         ),
         reads: &[Given(
-            Asked(Kind::Method, "M", "main"),
+            KeyParts(Kind::Method, "M", "main"),
             "050100030000000b01000000161000000011020000001308000000120000000109000000140b000000170178",
         )],
     },
     Row {
         query: Given(
-            Asked(Kind::CheckBody, "A", "h"),
+            KeyParts(Kind::CheckBody, "A", "h"),
             "0a00000000000000020301680000000400ce0301680000000b0139",
         ),
         reads: &[
             Given(
-                Asked(Kind::Method, "A", "h"),
+                KeyParts(Kind::Method, "A", "h"),
                 "0501010168000000000000000001017a03015a0000000400000000000000000000000000000000070000000b0c00000009016700000000000000020e0000000d01430e00000012014200000008",
             ),
             HEADER_Z,
             Given(
-                Asked(Kind::Header, "C", ""),
+                KeyParts(Kind::Header, "C", ""),
                 "0401000000000000000000000000000000000000",
             ),
             BARE_HEADER_B,
             Given(
-                Asked(Kind::Members, "A", ""),
+                KeyParts(Kind::Members, "A", ""),
                 "0801000000000000000000000000000000020167014100000000000000020301420301410001680141000000000000000103015a00",
             ),
-            Given(Asked(Kind::Supers, "C", ""), "07010000000000000001014300"),
+            Given(
+                KeyParts(Kind::Supers, "C", ""),
+                "07010000000000000001014300",
+            ),
         ],
     },
     Row {
         query: Given(
-            Asked(Kind::CheckBody, "A", "f"),
+            KeyParts(Kind::CheckBody, "A", "f"),
             "0a000000000000000103016600000006012f",
         ),
         reads: &[
             Given(
-                Asked(Kind::Method, "A", "f"),
+                KeyParts(Kind::Method, "A", "f"),
                 "050101016600000000000000000000000000000000000000000000000001050000000a0178000000060800000008000000000e0000000b014108000000110000000000000010",
             ),
             Given(
-                Asked(Kind::Members, "A", ""),
+                KeyParts(Kind::Members, "A", ""),
                 "08010000000000000000000000000000000101660141000000000000000000",
             ),
             Given(
-                Asked(Kind::Header, "A", ""),
+                KeyParts(Kind::Header, "A", ""),
                 "04010000000000000000000000000000000000010166",
             ),
         ],

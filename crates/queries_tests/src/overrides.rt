@@ -1,6 +1,6 @@
 //! The checks of classes whose methods override one with another return type, in both profiles.
 use crate::answers::{SUPERS_B, are_right, are_right_in};
-use answer_fixtures::Asked;
+use answer_fixtures::KeyParts;
 use item_ids::Kind;
 use profiles::Profile;
 use query_fixtures::Row;
@@ -9,57 +9,57 @@ use std::test::*;
 
 // The class B below A, which has a method g.
 const HEADER_B: Given<'static> = Given(
-    Asked(Kind::Header, "B", ""),
+    KeyParts(Kind::Header, "B", ""),
     "040100010141000000000000000000000000000000010167",
 );
 
 // A's g gives an A.
 const MEMBERS_A: Given<'static> = Given(
-    Asked(Kind::Members, "A", ""),
+    KeyParts(Kind::Members, "A", ""),
     "080100000000000000000000000000000001016701410000000000000000030141",
 );
 
 // B's g gives a B, an A, an int or a C, or takes an int and gives a C.
 const GIVES_B: Given<'static> = Given(
-    Asked(Kind::Members, "B", ""),
+    KeyParts(Kind::Members, "B", ""),
     "080100000000000000000000000000000001016701420000000000000000030142",
 );
 
 const GIVES_A: Given<'static> = Given(
-    Asked(Kind::Members, "B", ""),
+    KeyParts(Kind::Members, "B", ""),
     "080100000000000000000000000000000001016701420000000000000000030141",
 );
 
 const GIVES_INT: Given<'static> = Given(
-    Asked(Kind::Members, "B", ""),
+    KeyParts(Kind::Members, "B", ""),
     "08010000000000000000000000000000000101670142000000000000000000",
 );
 
 const GIVES_C: Given<'static> = Given(
-    Asked(Kind::Members, "B", ""),
+    KeyParts(Kind::Members, "B", ""),
     "080100000000000000000000000000000001016701420000000000000000030143",
 );
 
 const TAKES_INT: Given<'static> = Given(
-    Asked(Kind::Members, "B", ""),
+    KeyParts(Kind::Members, "B", ""),
     "08010000000000000000000000000000000101670142000000000000000100030143",
 );
 
 // A chain of C with A in it, and one without.
 const CHAIN_WITH_A: Given<'static> = Given(
-    Asked(Kind::Supers, "C", ""),
+    KeyParts(Kind::Supers, "C", ""),
     "070100000000000000020143014100",
 );
 
 const CHAIN_OF_C: Given<'static> = Given(
-    Asked(Kind::Supers, "C", ""),
+    KeyParts(Kind::Supers, "C", ""),
     "07010000000000000001014300",
 );
 
-const FINE: Given<'static> = Given(Asked(Kind::CheckClass, "B", ""), "090000000000000000");
+const FINE: Given<'static> = Given(KeyParts(Kind::CheckClass, "B", ""), "090000000000000000");
 
 const WRONG: Given<'static> = Given(
-    Asked(Kind::CheckClass, "B", ""),
+    KeyParts(Kind::CheckClass, "B", ""),
     "090000000000000001020000000000cd",
 );
 

@@ -6,12 +6,12 @@ use crate::answers::{
     HEADER_M, HEADER_Z, INDEX_OF_ONE, MAIN_OF_ONE, MEMBERS_A, MEMBERS_M, MEMBERS_Z, METHOD_MAIN,
     SIG_F, SIG_MAIN, SUPERS_M, SUPERS_Z, TREE_OF_ONE, are_right,
 };
-use answer_fixtures::{Asked, Unfit};
+use answer_fixtures::{KeyParts, Unfit};
 use item_ids::Kind;
 use profiles::Profile;
 use query_fixtures::{Row, brings_each, is_answer, is_lacking};
 use recorder::ReadFault;
-use run_fixtures::{Given, Kept};
+use run_fixtures::{Given, KeptReads};
 use std::alloc::Global;
 use std::test::*;
 
@@ -20,52 +20,55 @@ const TEXT: &str =
     "class M { public static void main(String[] a) { System.out.println(new A().f()); } } class A { public int f() { return 1; } public int g() { return 2; } }";
 
 const SOURCE: Given<'static> = Given(
-    Asked(Kind::Source, "M.java", ""),
+    KeyParts(Kind::Source, "M.java", ""),
     "0101000000000000009a636c617373204d207b207075626c69632073746174696320766f6964206d61696e28537472696e675b5d206129207b2053797374656d2e6f75742e7072696e746c6e286e6577204128292e662829293b207d207d20636c6173732041207b207075626c696320696e7420662829207b2072657475726e20313b207d207075626c696320696e7420672829207b2072657475726e20323b207d207d",
 );
 
 const TREE: Given<'static> = Given(
-    Asked(Kind::Tree, "M.java", ""),
+    KeyParts(Kind::Tree, "M.java", ""),
     "020101014d030000000b07000000160e0000001101410166000000000000000000000000000000010141000000000000000000000000000000000201016600000000000000000000000000000000000000000000000000080000000700000001000000060101670000000000000000000000000000000000000000000000000008000000070000000200000006",
 );
 
 const INDEX: Given<'static> = Given(
-    Asked(Kind::Index, "", ""),
+    KeyParts(Kind::Index, "", ""),
     "0300000000000000020141064d2e6a617661014d064d2e6a617661",
 );
 
 const METHOD_F: Given<'static> = Given(
-    Asked(Kind::Method, "A", "f"),
+    KeyParts(Kind::Method, "A", "f"),
     "05010101660000000000000000000000000000000000000000000000000008000000070000000100000006",
 );
 
 const METHOD_G: Given<'static> = Given(
-    Asked(Kind::Method, "A", "g"),
+    KeyParts(Kind::Method, "A", "g"),
     "05010101670000000000000000000000000000000000000000000000000008000000070000000200000006",
 );
 
-const METHOD_H: Given<'static> = Given(Asked(Kind::Method, "A", "h"), "0500");
+const METHOD_H: Given<'static> = Given(KeyParts(Kind::Method, "A", "h"), "0500");
 
-const METHOD_Z: Given<'static> = Given(Asked(Kind::Method, "Z", "f"), "0500");
+const METHOD_Z: Given<'static> = Given(KeyParts(Kind::Method, "Z", "f"), "0500");
 
-const SIG_G: Given<'static> = Given(Asked(Kind::Sig, "A", "g"), "0601000000000000000000");
+const SIG_G: Given<'static> = Given(KeyParts(Kind::Sig, "A", "g"), "0601000000000000000000");
 
-const SIG_H: Given<'static> = Given(Asked(Kind::Sig, "A", "h"), "0600");
+const SIG_H: Given<'static> = Given(KeyParts(Kind::Sig, "A", "h"), "0600");
 
-const SIG_Z: Given<'static> = Given(Asked(Kind::Sig, "Z", "f"), "0600");
+const SIG_Z: Given<'static> = Given(KeyParts(Kind::Sig, "Z", "f"), "0600");
 
-const SUPERS_A: Given<'static> = Given(Asked(Kind::Supers, "A", ""), "07010000000000000001014100");
+const SUPERS_A: Given<'static> = Given(
+    KeyParts(Kind::Supers, "A", ""),
+    "07010000000000000001014100",
+);
 
-const CLASS_A: Given<'static> = Given(Asked(Kind::CheckClass, "A", ""), "090000000000000000");
+const CLASS_A: Given<'static> = Given(KeyParts(Kind::CheckClass, "A", ""), "090000000000000000");
 
-const BODY_G: Given<'static> = Given(Asked(Kind::CheckBody, "A", "g"), "0a0000000000000000");
+const BODY_G: Given<'static> = Given(KeyParts(Kind::CheckBody, "A", "g"), "0a0000000000000000");
 
-const BODY_Z: Given<'static> = Given(Asked(Kind::CheckBody, "Z", "f"), "0a0000000000000000");
+const BODY_Z: Given<'static> = Given(KeyParts(Kind::CheckBody, "Z", "f"), "0a0000000000000000");
 
-const DIAGS_A: Given<'static> = Given(Asked(Kind::Diags, "A", ""), "0b0000000000000000");
+const DIAGS_A: Given<'static> = Given(KeyParts(Kind::Diags, "A", ""), "0b0000000000000000");
 
 const ANSWER: Given<'static> = Given(
-    Asked(Kind::Answer, "", ""),
+    KeyParts(Kind::Answer, "", ""),
     "0c0000000000000000000000000000000201410000000000000000000000000000000201660141000000000000000000016701410000000000000000000000000000000000014d000000000000000000000000000000000000000000000000",
 );
 
@@ -226,14 +229,14 @@ static DIAGS: [Row; 4] = [
 const ONE_LITERAL: &str =
     "class M { public static void main(String[] a) { System.out.println(1); } }";
 
-const NO_METHOD: Given<'static> = Given(Asked(Kind::Method, "M", "f"), "0500");
+const NO_METHOD: Given<'static> = Given(KeyParts(Kind::Method, "M", "f"), "0500");
 
 // Queries of its project, in which there is no other class.
 static OF_ONE_LITERAL: [Row; 14] = [
     Row {
         query: TREE_OF_ONE,
         reads: &[Given(
-            Asked(Kind::Source, "M.java", ""),
+            KeyParts(Kind::Source, "M.java", ""),
             "0101000000000000004a636c617373204d207b207075626c69632073746174696320766f6964206d61696e28537472696e675b5d206129207b2053797374656d2e6f75742e7072696e746c6e2831293b207d207d",
         )],
     },
@@ -258,7 +261,7 @@ static OF_ONE_LITERAL: [Row; 14] = [
         reads: &[MAIN_OF_ONE],
     },
     Row {
-        query: Given(Asked(Kind::Sig, "M", "f"), "0600"),
+        query: Given(KeyParts(Kind::Sig, "M", "f"), "0600"),
         reads: &[NO_METHOD],
     },
     Row {
@@ -278,7 +281,7 @@ static OF_ONE_LITERAL: [Row; 14] = [
         reads: &[MAIN_OF_ONE],
     },
     Row {
-        query: Given(Asked(Kind::CheckBody, "M", "f"), "0a0000000000000000"),
+        query: Given(KeyParts(Kind::CheckBody, "M", "f"), "0a0000000000000000"),
         reads: &[NO_METHOD],
     },
     Row {
@@ -311,16 +314,16 @@ fn runs_of_the_runner(rt: HostRuntime) -> Result<(), Fail> {
 }
 
 // What is kept where the list lacks the members of the second class, which the body of `main` calls.
-const LACKING_MEMBERS: Kept = Kept {
+const LACKING_MEMBERS: KeptReads = KeptReads {
     reads: &[METHOD_MAIN, HEADER_A],
     fault: Some(ReadFault::NotHeld),
-    refused: Some(Asked(Kind::Members, "A", "")),
+    refused: Some(KeyParts(Kind::Members, "A", "")),
 };
 
 /// Whether the case's run, over each beginning of its reads, is refused the read that comes next.
 fn is_refused_each(alloc: Global, row: &Row) -> Result<bool, Unfit> {
     for (count, next) in row.reads.iter().enumerate() {
-        let kept = Kept {
+        let kept = KeptReads {
             reads: &row.reads[..count],
             fault: Some(ReadFault::NotHeld),
             refused: Some(next.0),

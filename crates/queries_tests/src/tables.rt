@@ -5,56 +5,59 @@ use crate::answers::{
     FILE_A, HEADER_Z, INDEX_OF_ONE, NO_HEADER_A, NO_HEADER_B, NO_TREE, SIG_F, SUPERS_B, SUPERS_Z,
     are_right,
 };
-use answer_fixtures::Asked;
+use answer_fixtures::KeyParts;
 use item_ids::Kind;
 use query_fixtures::Row;
 use run_fixtures::Given;
 use std::test::*;
 
 const HEADER_B: Given<'static> = Given(
-    Asked(Kind::Header, "B", ""),
+    KeyParts(Kind::Header, "B", ""),
     "040100010141000000000000000000000000000000010167",
 );
 
 const HEADER_WITH_FIELD: Given<'static> = Given(
-    Asked(Kind::Header, "A", ""),
+    KeyParts(Kind::Header, "A", ""),
     "040100000000000000000001017800000000000000000201660167",
 );
 
 const SUPERS_C: Given<'static> = Given(
-    Asked(Kind::Supers, "C", ""),
+    KeyParts(Kind::Supers, "C", ""),
     "07010000000000000001014301015a",
 );
 
-const INDEX_OF_C: Given<'static> = Given(Asked(Kind::Index, "", ""), "03000000000000000101430161");
+const INDEX_OF_C: Given<'static> = Given(
+    KeyParts(Kind::Index, "", ""),
+    "03000000000000000101430161",
+);
 
 const HEADER_C: Given<'static> = Given(
-    Asked(Kind::Header, "C", ""),
+    KeyParts(Kind::Header, "C", ""),
     "04010001015a00000000000000000000000000000000",
 );
 
 const SUPERS_D: Given<'static> = Given(
-    Asked(Kind::Supers, "D", ""),
+    KeyParts(Kind::Supers, "D", ""),
     "070100000000000000010144020144",
 );
 
 const HEADER_D: Given<'static> = Given(
-    Asked(Kind::Header, "D", ""),
+    KeyParts(Kind::Header, "D", ""),
     "04010001014400000000000000000000000000000000",
 );
 
 const WRONG_CLASS_B: Given<'static> = Given(
-    Asked(Kind::CheckClass, "B", ""),
+    KeyParts(Kind::CheckClass, "B", ""),
     "090000000000000001020000000000cd",
 );
 
 const MEMBERS_B: Given<'static> = Given(
-    Asked(Kind::Members, "B", ""),
+    KeyParts(Kind::Members, "B", ""),
     "08010000000000000001017801410000000000000000020166014100000000000000000001670142000000000000000000",
 );
 
 const MEMBERS_WITH_FIELD: Given<'static> = Given(
-    Asked(Kind::Members, "A", ""),
+    KeyParts(Kind::Members, "A", ""),
     "08010000000000000001017801410000000000000000020166014100000000000000000001670141000000000000000000",
 );
 
@@ -69,7 +72,7 @@ static CHAINS_AND_MEMBERS: [Row; 5] = [
         query: SUPERS_B,
         reads: &[
             Given(
-                Asked(Kind::Index, "", ""),
+                KeyParts(Kind::Index, "", ""),
                 "0300000000000000020141016101420161",
             ),
             HEADER_B,
@@ -83,7 +86,7 @@ static CHAINS_AND_MEMBERS: [Row; 5] = [
     Row {
         query: SUPERS_D,
         reads: &[
-            Given(Asked(Kind::Index, "", ""), "03000000000000000101440161"),
+            Given(KeyParts(Kind::Index, "", ""), "03000000000000000101440161"),
             HEADER_D,
         ],
     },
@@ -94,7 +97,7 @@ static CHAINS_AND_MEMBERS: [Row; 5] = [
             HEADER_B,
             HEADER_WITH_FIELD,
             SIG_F,
-            Given(Asked(Kind::Sig, "B", "g"), "0601000000000000000000"),
+            Given(KeyParts(Kind::Sig, "B", "g"), "0601000000000000000000"),
         ],
     },
 ];
@@ -103,7 +106,7 @@ static CHAINS_AND_MEMBERS: [Row; 5] = [
 // one that extends itself, and of one with a field whose class isn't declared and a second field of that name.
 static CHECKS: [Row; 5] = [
     Row {
-        query: Given(Asked(Kind::CheckClass, "B", ""), "090000000000000000"),
+        query: Given(KeyParts(Kind::CheckClass, "B", ""), "090000000000000000"),
         reads: &[HEADER_B, SUPERS_B, MEMBERS_B, MEMBERS_WITH_FIELD],
     },
     Row {
@@ -112,31 +115,40 @@ static CHECKS: [Row; 5] = [
             HEADER_B,
             SUPERS_B,
             Given(
-                Asked(Kind::Members, "B", ""),
+                KeyParts(Kind::Members, "B", ""),
                 "08010000000000000001017801410000000000000000020166014100000000000000000001670142000000000000000001",
             ),
             MEMBERS_WITH_FIELD,
         ],
     },
     Row {
-        query: Given(Asked(Kind::CheckClass, "C", ""), "0900000000000000010000c9"),
+        query: Given(
+            KeyParts(Kind::CheckClass, "C", ""),
+            "0900000000000000010000c9",
+        ),
         reads: &[HEADER_C, SUPERS_C],
     },
     Row {
-        query: Given(Asked(Kind::CheckClass, "D", ""), "0900000000000000010000ca"),
+        query: Given(
+            KeyParts(Kind::CheckClass, "D", ""),
+            "0900000000000000010000ca",
+        ),
         reads: &[HEADER_D, SUPERS_D],
     },
     Row {
         query: Given(
-            Asked(Kind::CheckClass, "F", ""),
+            KeyParts(Kind::CheckClass, "F", ""),
             "090000000000000002010000000000ce010000000100cb",
         ),
         reads: &[
             Given(
-                Asked(Kind::Header, "F", ""),
+                KeyParts(Kind::Header, "F", ""),
                 "040100000000000000000002017a03015a017a000000000000000000",
             ),
-            Given(Asked(Kind::Supers, "F", ""), "07010000000000000001014600"),
+            Given(
+                KeyParts(Kind::Supers, "F", ""),
+                "07010000000000000001014600",
+            ),
             HEADER_Z,
         ],
     },
@@ -147,44 +159,44 @@ static CHECKS: [Row; 5] = [
 static FAULTS: [Row; 3] = [
     Row {
         query: Given(
-            Asked(Kind::Diags, "B", ""),
+            KeyParts(Kind::Diags, "B", ""),
             "0b0000000000000002020000000000cd03016700000008012f",
         ),
         reads: &[
             HEADER_B,
             WRONG_CLASS_B,
             Given(
-                Asked(Kind::CheckBody, "B", "g"),
+                KeyParts(Kind::CheckBody, "B", "g"),
                 "0a000000000000000103016700000008012f",
             ),
         ],
     },
     Row {
         query: Given(
-            Asked(Kind::Diags, "G", ""),
+            KeyParts(Kind::Diags, "G", ""),
             "0b0000000000000001020000000100cc",
         ),
         reads: &[
             Given(
-                Asked(Kind::Header, "G", ""),
+                KeyParts(Kind::Header, "G", ""),
                 "040100000000000000000000000000000000000201660166",
             ),
             Given(
-                Asked(Kind::CheckClass, "G", ""),
+                KeyParts(Kind::CheckClass, "G", ""),
                 "090000000000000001020000000100cc",
             ),
-            Given(Asked(Kind::CheckBody, "G", "f"), "0a0000000000000000"),
+            Given(KeyParts(Kind::CheckBody, "G", "f"), "0a0000000000000000"),
         ],
     },
     Row {
         query: Given(
-            Asked(Kind::Answer, "", ""),
+            KeyParts(Kind::Answer, "", ""),
             "0c000000000000000200006601016100650000000000000000",
         ),
         reads: &[
             FILE_A,
             NO_TREE,
-            Given(Asked(Kind::Index, "", ""), "030000000000000000"),
+            Given(KeyParts(Kind::Index, "", ""), "030000000000000000"),
         ],
     },
 ];
@@ -195,38 +207,41 @@ static FAULTS: [Row; 3] = [
 static OF_NO_PROJECT: [Row; 4] = [
     Row {
         query: Given(
-            Asked(Kind::Members, "B", ""),
+            KeyParts(Kind::Members, "B", ""),
             "080100000000000000000000000000000000",
         ),
         reads: &[
             SUPERS_B,
             HEADER_B,
             NO_HEADER_A,
-            Given(Asked(Kind::Sig, "B", "g"), "0600"),
+            Given(KeyParts(Kind::Sig, "B", "g"), "0600"),
         ],
     },
     Row {
-        query: Given(Asked(Kind::Supers, "B", ""), "07010000000000000001014200"),
+        query: Given(
+            KeyParts(Kind::Supers, "B", ""),
+            "07010000000000000001014200",
+        ),
         reads: &[
-            Given(Asked(Kind::Index, "", ""), "03000000000000000101420161"),
+            Given(KeyParts(Kind::Index, "", ""), "03000000000000000101420161"),
             NO_HEADER_B,
         ],
     },
     Row {
-        query: Given(Asked(Kind::CheckClass, "B", ""), "090000000000000000"),
-        reads: &[HEADER_B, Given(Asked(Kind::Supers, "B", ""), "0700")],
+        query: Given(KeyParts(Kind::CheckClass, "B", ""), "090000000000000000"),
+        reads: &[HEADER_B, Given(KeyParts(Kind::Supers, "B", ""), "0700")],
     },
     Row {
         query: Given(
-            Asked(Kind::Answer, "", ""),
+            KeyParts(Kind::Answer, "", ""),
             "0c0000000000000002000066010161006500000000000000010143000000000000000000000000000000000000000000000000",
         ),
         reads: &[
             FILE_A,
             NO_TREE,
             INDEX_OF_C,
-            Given(Asked(Kind::Members, "C", ""), "0800"),
-            Given(Asked(Kind::Diags, "C", ""), "0b0000000000000000"),
+            Given(KeyParts(Kind::Members, "C", ""), "0800"),
+            Given(KeyParts(Kind::Diags, "C", ""), "0b0000000000000000"),
         ],
     },
 ];

@@ -1,25 +1,28 @@
 //! The queries that read texts and trees.
 
 use crate::answers::{FILE_A, NO_HEADER_A, NO_HEADER_B, NO_TREE, are_right};
-use answer_fixtures::Asked;
+use answer_fixtures::KeyParts;
 use item_ids::Kind;
 use profiles::Profile;
 use query_fixtures::{Row, is_lacking};
 use recorder::ReadFault;
-use run_fixtures::{Given, Kept};
+use run_fixtures::{Given, KeptReads};
 use std::test::*;
 
-const INDEX_OF_A: Given<'static> = Given(Asked(Kind::Index, "", ""), "03000000000000000101410161");
+const INDEX_OF_A: Given<'static> = Given(
+    KeyParts(Kind::Index, "", ""),
+    "03000000000000000101410161",
+);
 
-const NO_METHOD_G: Given<'static> = Given(Asked(Kind::Method, "A", "g"), "0500");
+const NO_METHOD_G: Given<'static> = Given(KeyParts(Kind::Method, "A", "g"), "0500");
 
 const TREE_OF_A: Given<'static> = Given(
-    Asked(Kind::Tree, "a", ""),
+    KeyParts(Kind::Tree, "a", ""),
     "0201000000000000000001014101014200000000000000010179000000000000000001010166000000000000000002016102000000040162010000000900000000000000000000000000000000080000000e000000010000000d",
 );
 
 const METHOD_OF_A: Given<'static> = Given(
-    Asked(Kind::Method, "A", "f"),
+    KeyParts(Kind::Method, "A", "f"),
     "0501010166000000000000000002016102000000040162010000000900000000000000000000000000000000080000000e000000010000000d",
 );
 
@@ -32,55 +35,58 @@ static TABLE: [Row; 13] = [
     Row {
         query: TREE_OF_A,
         reads: &[Given(
-            Asked(Kind::Source, "a", ""),
+            KeyParts(Kind::Source, "a", ""),
             "0101000000000000004b636c617373204120657874656e64732042207b20696e7420793b207075626c696320696e74206628696e745b5d20612c20626f6f6c65616e206229207b2072657475726e20313b207d207d",
         )],
     },
     Row {
         query: NO_TREE,
         reads: &[Given(
-            Asked(Kind::Source, "a", ""),
+            KeyParts(Kind::Source, "a", ""),
             "01010000000000000005636c617373",
         )],
     },
     Row {
         query: NO_TREE,
-        reads: &[Given(Asked(Kind::Source, "a", ""), "0100")],
+        reads: &[Given(KeyParts(Kind::Source, "a", ""), "0100")],
     },
     Row {
         query: Given(
-            Asked(Kind::Index, "", ""),
+            KeyParts(Kind::Index, "", ""),
             "030000000000000003014101610142016101430163",
         ),
         reads: &[
-            Given(Asked(Kind::Files, "", ""), "000000000000000003016101620163"),
             Given(
-                Asked(Kind::Tree, "a", ""),
+                KeyParts(Kind::Files, "", ""),
+                "000000000000000003016101620163",
+            ),
+            Given(
+                KeyParts(Kind::Tree, "a", ""),
                 "0201000000000000000003014200000000000000000000000000000000000141000000000000000000000000000000000001420000000000000000000000000000000000",
             ),
-            Given(Asked(Kind::Tree, "b", ""), "0200"),
+            Given(KeyParts(Kind::Tree, "b", ""), "0200"),
             Given(
-                Asked(Kind::Tree, "c", ""),
+                KeyParts(Kind::Tree, "c", ""),
                 "02010000000000000000020143000000000000000000000000000000000001410000000000000000000000000000000000",
             ),
         ],
     },
     Row {
         query: Given(
-            Asked(Kind::Header, "A", ""),
+            KeyParts(Kind::Header, "A", ""),
             "040100010142000000000000000101790000000000000000010166",
         ),
         reads: &[INDEX_OF_A, TREE_OF_A],
     },
     Row {
         query: Given(
-            Asked(Kind::Header, "A", ""),
+            KeyParts(Kind::Header, "A", ""),
             "04010001014300000000000000000000000000000000",
         ),
         reads: &[
             INDEX_OF_A,
             Given(
-                Asked(Kind::Tree, "a", ""),
+                KeyParts(Kind::Tree, "a", ""),
                 "0201000000000000000002014101014300000000000000000000000000000000014101014200000000000000010179000000000000000001010166000000000000000002016102000000040162010000000900000000000000000000000000000000080000000e000000010000000d",
             ),
         ],
@@ -98,15 +104,15 @@ static TABLE: [Row; 13] = [
         reads: &[INDEX_OF_A, TREE_OF_A],
     },
     Row {
-        query: Given(Asked(Kind::Method, "B", "f"), "0500"),
+        query: Given(KeyParts(Kind::Method, "B", "f"), "0500"),
         reads: &[INDEX_OF_A],
     },
     Row {
-        query: Given(Asked(Kind::Sig, "A", "f"), "06010000000000000002020100"),
+        query: Given(KeyParts(Kind::Sig, "A", "f"), "06010000000000000002020100"),
         reads: &[METHOD_OF_A],
     },
     Row {
-        query: Given(Asked(Kind::Sig, "A", "g"), "0600"),
+        query: Given(KeyParts(Kind::Sig, "A", "g"), "0600"),
         reads: &[NO_METHOD_G],
     },
     Row {
@@ -122,21 +128,21 @@ fn values_of_texts_and_trees(rt: HostRuntime) -> Result<(), Fail> {
 }
 
 // Runs whose last answer is missing: the query, and what is kept of its run.
-static LACKING: [(Asked, Kept); 2] = [
+static LACKING: [(KeyParts, KeptReads); 2] = [
     (
-        Asked(Kind::Index, "", ""),
-        Kept {
+        KeyParts(Kind::Index, "", ""),
+        KeptReads {
             reads: &[FILE_A],
             fault: Some(ReadFault::NotHeld),
-            refused: Some(Asked(Kind::Tree, "a", "")),
+            refused: Some(KeyParts(Kind::Tree, "a", "")),
         },
     ),
     (
-        Asked(Kind::Header, "A", ""),
-        Kept {
+        KeyParts(Kind::Header, "A", ""),
+        KeptReads {
             reads: &[INDEX_OF_A],
             fault: Some(ReadFault::NotHeld),
-            refused: Some(Asked(Kind::Tree, "a", "")),
+            refused: Some(KeyParts(Kind::Tree, "a", "")),
         },
     ),
 ];

@@ -11,15 +11,15 @@ use Rattle.recorder.specs.Recording.{Recording}
 use Rattle.recorder.specs.Runs.{IsNextRefused}
 use Rattle.query_rules.specs.Meaning.{mean}
 use Rattle.query_rules.specs.Reads.{reads}
-use Rattle.answer_fixtures.specs.declared.keys.Asked.{Asked}
+use Rattle.answer_fixtures.specs.declared.keys.KeyParts.{KeyParts}
 use Rattle.answer_fixtures.specs.Telling.{IsKeyOf, Tell}
 use Rattle.run_fixtures.specs.declared.reads.Given.{Given}
-use Rattle.run_fixtures.specs.declared.refusals.Kept.{Kept}
-use Rattle.run_fixtures.specs.Reading.{AreReadsOf, IsKept}
+use Rattle.run_fixtures.specs.declared.refusals.KeptReads.{KeptReads}
+use Rattle.run_fixtures.specs.Reading.{AreReadsOf, KeepsJust}
 
 -- In a profile the key reads just the answers that are given, one after the other, and the value that
 -- is given follows from them.
-pub record IsRunOf (profile : Profile) (query : Given) (given : List Given) : Type 0 where
+pub record IsGivenRun (profile : Profile) (query : Given) (given : List Given) : Type 0 where
   pub key : Key
   pub of_key : IsKeyOf query.0 key
   pub told : List ReadValue
@@ -30,13 +30,13 @@ pub record IsRunOf (profile : Profile) (query : Given) (given : List Given) : Ty
 
 -- A run of the key in a profile keeps just this, when an answer wasn't there; what it read is what the
 -- key reads first, and the key that was refused comes next.
-pub record IsLackingRun (profile : Profile) (query : Asked) (kept : Kept) : Type 0 where
+pub record IsLackingRun (profile : Profile) (query : KeyParts) (kept : KeptReads) : Type 0 where
   pub key : Key
   pub of_key : IsKeyOf query key
   pub end : Recording (List ReadValue)
   pub in_order : AsksInOrder (mean profile) (reads profile) key end.told
   pub next : IsNextRefused (mean profile) (reads profile) key end
-  pub keeps : IsKept kept end
+  pub keeps : KeepsJust kept end
 
 -- in the profile and the project the key has the value that is given
 pub record Means (profile : Profile) (p : Project) (wanted : Given) : Type 0 where

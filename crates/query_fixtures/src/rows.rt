@@ -2,18 +2,18 @@
 ghost use Rattle.std.specs.Prelude.{◌≡◌, ◌<◌, IsTrue, IfOk};
 ghost use Rattle.item_ids.specs.Keys.{kind_of};
 ghost use Rattle.item_ids.specs.declared.kind.Kind.TheVariants.{CheckBody};
+ghost use Rattle.item_ids.specs.Inputs.{rank as rank_of};
 ghost use Rattle.profiles.specs.declared.profile.Profile.{Profile};
-ghost use Rattle.recorder.specs.Backed.{rank as rank_of};
 ghost use Rattle.answer_fixtures.specs.Telling.{IsKeyOf};
-ghost use Rattle.query_fixtures.specs.Rows.{IsRunOf, IsLackingRun};
+ghost use Rattle.query_fixtures.specs.Rows.{IsGivenRun, IsLackingRun};
 
-use answer_fixtures::{Asked, Unfit, is_key, key_of};
+use answer_fixtures::{KeyParts, Unfit, is_key, key_of};
 use body_query::check_body;
 use item_ids::{Key, Kind, rank};
 use profiles::Profile;
 use providers::MiniJava;
 use recorder::{AnswerList, Recorder, Runner};
-use run_fixtures::{Given, Kept, comes_to, list_of, wants};
+use run_fixtures::{Given, KeptReads, comes_to, list_of, wants};
 use std::alloc::Global;
 
 /// A query with its value's canonical bytes, and the answers at hand, which are its reads in order.
@@ -24,7 +24,7 @@ pub struct Row<'a> {
 }
 
 /// The key of a query that is no input.
-fn query_of(alloc: Global, asked: Asked) -> Result<Key, Unfit>
+fn query_of(alloc: Global, asked: KeyParts) -> Result<Key, Unfit>
     ensures no_input { IfOk result (λ key. 0 < rank_of key) }
     ensures told { IfOk result (IsKeyOf asked.entry) }
 {
@@ -35,7 +35,7 @@ fn query_of(alloc: Global, asked: Asked) -> Result<Key, Unfit>
 }
 
 /// Whether the runner was asked this query alone.
-fn has_logged(runner: &MiniJava, asked: Asked) -> bool {
+fn has_logged(runner: &MiniJava, asked: KeyParts) -> bool {
     matches!(runner.log(), [one] if is_key(one, asked))
 }
 
@@ -51,7 +51,7 @@ fn is_run(
 ) -> Result<bool, Unfit>
     requires no_input { 0 < rank_of key.now }
     requires told { IsKeyOf row.query.0 key.now }
-    ensures { IfOk result (λ b. IsTrue b → IsRunOf profile row.entry.query row.entry.reads.now) }
+    ensures { IfOk result (λ b. IsTrue b → IsGivenRun profile row.entry.query row.entry.reads.now) }
 {
     let mut recorder = Recorder::new(alloc, list);
     let result = runner.run(alloc, profile, key, &mut recorder);
@@ -67,7 +67,7 @@ fn is_run(
 fn is_right_of(alloc: Global, profile: Profile, key: &Key, row: Row) -> Result<bool, Unfit>
     requires no_input { 0 < rank_of key.now }
     requires told { IsKeyOf row.query.0 key.now }
-    ensures { IfOk result (λ b. IsTrue b → IsRunOf profile row.entry.query row.entry.reads.now) }
+    ensures { IfOk result (λ b. IsTrue b → IsGivenRun profile row.entry.query row.entry.reads.now) }
 {
     let list = list_of(alloc, row.reads)?;
     let mut runner = MiniJava::new(alloc);
@@ -76,7 +76,7 @@ fn is_right_of(alloc: Global, profile: Profile, key: &Key, row: Row) -> Result<b
 
 /// Whether the case's query, run in a profile over its answers, reads just them, in their order, comes to its value, and is logged.
 pub fn is_right(alloc: Global, profile: Profile, row: Row) -> Result<bool, Unfit>
-    ensures { IfOk result (λ b. IsTrue b → IsRunOf profile row.entry.query row.entry.reads.now) }
+    ensures { IfOk result (λ b. IsTrue b → IsGivenRun profile row.entry.query row.entry.reads.now) }
 {
     let key = query_of(alloc, row.query.0)?;
     is_right_of(alloc, profile, &key, row)
@@ -90,8 +90,8 @@ fn is_refused(
     profile: Profile,
     key: &Key,
     list: AnswerList,
-    query: Asked,
-    kept: Kept,
+    query: KeyParts,
+    kept: KeptReads,
 ) -> Result<bool, Unfit>
     requires no_input { 0 < rank_of key.now }
     requires told { IsKeyOf query key.now }
@@ -112,8 +112,8 @@ fn is_lacking_of(
     alloc: Global,
     profile: Profile,
     key: &Key,
-    query: Asked,
-    kept: Kept,
+    query: KeyParts,
+    kept: KeptReads,
 ) -> Result<bool, Unfit>
     requires no_input { 0 < rank_of key.now }
     requires told { IsKeyOf query key.now }
@@ -125,7 +125,12 @@ fn is_lacking_of(
 }
 
 /// Whether the run of the query in a profile over the answers that are kept is refused another one, and is logged.
-pub fn is_lacking(alloc: Global, profile: Profile, query: Asked, kept: Kept) -> Result<bool, Unfit>
+pub fn is_lacking(
+    alloc: Global,
+    profile: Profile,
+    query: KeyParts,
+    kept: KeptReads,
+) -> Result<bool, Unfit>
     ensures { IfOk result (λ b. IsTrue b → IsLackingRun profile query.entry kept.entry) }
 {
     let key = query_of(alloc, query)?;
@@ -137,7 +142,7 @@ fn is_body_check(alloc: Global, key: &Key, list: AnswerList, row: Row) -> Result
     requires body { kind_of key.now ≡ CheckBody }
     requires told { IsKeyOf row.query.0 key.now }
     ensures { IfOk result (λ b. IsTrue b → (profile : Profile)
-        → IsRunOf profile row.entry.query row.entry.reads.now) }
+        → IsGivenRun profile row.entry.query row.entry.reads.now) }
 {
     let mut recorder = Recorder::new(alloc, list);
     let result = check_body(alloc, key, &mut recorder);
@@ -149,7 +154,7 @@ fn is_body_check(alloc: Global, key: &Key, list: AnswerList, row: Row) -> Result
 fn is_checked_of(alloc: Global, key: &Key, row: Row) -> Result<bool, Unfit>
     requires { IsKeyOf row.query.0 key.now }
     ensures { IfOk result (λ b. IsTrue b → (profile : Profile)
-        → IsRunOf profile row.entry.query row.entry.reads.now) }
+        → IsGivenRun profile row.entry.query row.entry.reads.now) }
 {
     if key.kind() != Kind::CheckBody {
         return Err(Unfit);
@@ -162,7 +167,7 @@ fn is_checked_of(alloc: Global, key: &Key, row: Row) -> Result<bool, Unfit>
 /// in their order, and comes to its value.
 pub fn is_checked(alloc: Global, row: Row) -> Result<bool, Unfit>
     ensures { IfOk result (λ b. IsTrue b → (profile : Profile)
-        → IsRunOf profile row.entry.query row.entry.reads.now) }
+        → IsGivenRun profile row.entry.query row.entry.reads.now) }
 {
     let key = query_of(alloc, row.query.0)?;
     is_checked_of(alloc, &key, row)

@@ -1,7 +1,8 @@
 //! Steps: one run of a query in profile 1 over what is held.
 ghost use Rattle.std.specs.Prelude.{◌≡◌, ◌<◌, [], None, IfOk};
-ghost use Rattle.recorder.specs.Backed.{rank as rank_of, GivesEach};
+ghost use Rattle.recorder.specs.Backed.{GivesEach};
 ghost use Rattle.item_ids.specs.declared.key.Key.{Key};
+ghost use Rattle.item_ids.specs.Inputs.{rank as rank_of};
 ghost use Rattle.result_bytes.specs.declared.value.Value.{Value};
 ghost use Rattle.mj_project.specs.Projects.{IsProject};
 ghost use Rattle.profiles.specs.declared.profile.Profile.TheVariants.{One};

@@ -16,9 +16,9 @@ use Rattle.tree_bytes.specs.Bodies as bodies
 use Rattle.result_bytes.specs.Payloads.{SignatureValue}
 use Rattle.recorder.specs.Projects.{Project}
 use Rattle.query_rules.specs.Items.{class_at, body_by, own_body, body_at, signature_of}
-use Rattle.query_laws.specs.Given.{Counts, IsBodyOf, OfMethod, OfMain, IsSignatureOf}
-use Rattle.query_laws.proofs.Ones.{from_map}
+use Rattle.query_laws.specs.Given.{IsFirstDeclaration, IsBodyOf, OfMethod, OfMain, IsSignatureOf}
 use Rattle.query_laws.proofs.Found.{own_of, own_is}
+use Rattle.mj_project.proofs.Listed.{from_map}
 
 same_method : {a b : Method} → bodies.OfMethod a ≡ bodies.OfMethod b → a ≡ b
 same_method e = cc
@@ -28,7 +28,7 @@ same_main e = cc
 
 module _ (p : Project) (c m : Name) where
   -- a class with methods has no main
-  no_main : (k : ClassDecl) (e : Counts p c k) (n : ℕ) (a : Method) → slice_get k.methods n ≡ Some a → k.main ≡ None
+  no_main : (k : ClassDecl) (e : IsFirstDeclaration p c k) (n : ℕ) (a : Method) → slice_get k.methods n ≡ Some a → k.main ≡ None
   no_main k e n a here = by_main k.main refl
     where
       by_main : (o : Option Statement) → k.main ≡ o → o ≡ None
@@ -52,7 +52,7 @@ module _ (p : Project) (c m : Name) where
   body_to _ (OfMain s is named) = main_body s is named
 
   module _ (b : BodyValue) where
-    by_main : (k : ClassDecl) → Counts p c k → (o : Option Statement) → k.main ≡ o → body_by o m k ≡ Some b → IsBodyOf p c m b
+    by_main : (k : ClassDecl) → IsFirstDeclaration p c k → (o : Option Statement) → k.main ≡ o → body_by o m k ≡ Some b → IsBodyOf p c m b
     by_main k e (Some s) is h = by_test (bytes_eq m main_word) refl h
       where
         by_test : (t : Bool) → bytes_eq m main_word ≡ t → (if t then Some (bodies.OfMain s) else None) ≡ Some b → IsBodyOf p c m b

@@ -5,23 +5,21 @@ use Rattle.std.specs.List.{cons_option}
 use Rattle.std.proofs.lemmas.Option.{none-some, same_Some}
 use Rattle.mj_tree.specs.Trees.{Name, File}
 use Rattle.mj_tree.specs.declared.tree.Field.{Field}
-use Rattle.mj_answer.specs.declared.table.FieldRow.{FieldRow}
-use Rattle.mj_answer.specs.AnswerValues.{MethodRowValue, ClassTableValue}
+use Rattle.mj_answer.specs.AnswerValues.{ClassTableValue}
 use Rattle.mj_answer.specs.Order.{NameBefore, IsAscendingBy}
-use Rattle.mj_answer.proofs.Alike.{one_list_by, Contains-cases, Contains-first, Contains-later}
+use Rattle.mj_answer.proofs.Alike.{one_list_by, Contains-cases, Contains-first, Contains-later, nowhere}
 use Rattle.mj_answer.proofs.Orders.{names}
 use Rattle.mj_members.specs.Declarations.{ClassDecl}
 use Rattle.mj_classes.specs.Declarations.{decl}
 use Rattle.mj_classes.specs.Chains.{chain_of}
-use Rattle.mj_project.proofs.Listed.{contains_at, place_of, map_at}
+use Rattle.mj_classes.proofs.Climb.{decl_name}
+use Rattle.mj_project.proofs.Listed.{contains_at, place_of, map_at, from_map}
 use Rattle.mj_rules.specs.Sentences.{file_of, classes_in}
 use Rattle.mj_rules.specs.Rules.{IsTableOf}
 use Rattle.mj_rules.specs.FaultLists.{class_names}
 use Rattle.mj_rules.specs.Answering.{set_of, name_order}
 use Rattle.mj_rules.specs.Tables.{table_of}
-use Rattle.mj_rules.proofs.Numbered.{nowhere}
-use Rattle.mj_rules.proofs.Overriding.{decl-name}
-use Rattle.mj_rules.proofs.OneAnswer.{decl_stands}
+use Rattle.mj_rules.proofs.OneAnswer.{decl_stands, one_table}
 use Rattle.mj_rules.proofs.Answering.{is_named}
 use Rattle.mj_rules.proofs.Sets.{names_compare, set_ascends, from_set, to_set}
 use Rattle.mj_rules.proofs.TableLaws.{table_law, ascend_by_names}
@@ -31,8 +29,7 @@ use Rattle.result_bytes.specs.declared.parts.ChainEnd.{ChainEnd}
 use Rattle.result_bytes.specs.Payloads.{HeaderValue, ChainValue}
 use Rattle.recorder.specs.Projects.{Project, bytes_at}
 use Rattle.query_rules.specs.Items.{tree_at, class_at, name_of, index_row, index_of, header_of, chain_value}
-use Rattle.query_laws.specs.Given.{IsTreeAt, IsIndexed, IsIndexOf, IsHeaderOf, IsChainOf, AreMembersOf}
-use Rattle.query_laws.proofs.Ones.{from_map}
+use Rattle.query_laws.specs.Given.{IsTreeAt, IsIndexed, IsProjectIndex, IsHeaderOf, IsClassChain, AreMembersOf}
 use Rattle.query_laws.proofs.Declared.{is_declared}
 
 -- ---- trees
@@ -65,27 +62,18 @@ header_given p c h = (to, from)
         let k = from_map header_of (class_at p c) h e in
         subst (IsHeaderOf p c) k.2 (record { declaration = k.0; counts = k.1; is_main = refl; superclass = refl; fields = refl; methods = refl })
 
-pub chain_given : (p : Project) (c : Name) (x : ChainValue) → IsChainOf p c x ↔ (option_map chain_value (chain_of (classes_in p) c) ≡ Some x)
+pub chain_given : (p : Project) (c : Name) (x : ChainValue) → IsClassChain p c x ↔ (option_map chain_value (chain_of (classes_in p) c) ≡ Some x)
 chain_given p c x = (to, from)
   where
-    to : IsChainOf p c x → option_map chain_value (chain_of (classes_in p) c) ≡ Some x
+    to : IsClassChain p c x → option_map chain_value (chain_of (classes_in p) c) ≡ Some x
     to is =
         let build : ChainEnd → ChainValue = λ end. record { classes = x.classes; end = end } in
         ap (option_map chain_value) ((chain_laws.given (classes_in p) c x.classes is.end).0 is.is_chain) ∙ ap (λ (end : ChainEnd). Some (build end)) (sym is.ends)
 
-    from : option_map chain_value (chain_of (classes_in p) c) ≡ Some x → IsChainOf p c x
+    from : option_map chain_value (chain_of (classes_in p) c) ≡ Some x → IsClassChain p c x
     from e =
         let k = from_map chain_value (chain_of (classes_in p) c) x e in
-        subst (IsChainOf p c) k.2 (record { end = k.0.1; is_chain = (chain_laws.given (classes_in p) c k.0.0 k.0.1).1 k.1; ends = refl })
-
-one_table : (cs : List ClassDecl) (c : Name) (t u : ClassTableValue) → IsTableOf cs c t → IsTableOf cs c u → t ≡ u
-one_table cs c t u a b =
-    let fields = one_list_by FieldRow Name (λ row. row.name) NameBefore names t.fields u.fields a.fields_ascend b.fields_ascend
-    (λ row. (λ h. (b.fields row).1 ((a.fields row).0 h), λ h. (a.fields row).1 ((b.fields row).0 h))) in
-    let methods = one_list_by MethodRowValue Name (λ row. row.name) NameBefore names t.methods u.methods a.methods_ascend b.methods_ascend
-    (λ row. (λ h. (b.methods row).1 ((a.methods row).0 h), λ h. (a.methods row).1 ((b.methods row).0 h))) in
-    let build : List FieldRow → List MethodRowValue → ClassTableValue = λ fs ms. record { fields = fs; methods = ms } in
-    ap₂ build fields methods
+        subst (IsClassChain p c) k.2 (record { end = k.0.1; is_chain = (chain_laws.given (classes_in p) c k.0.0 k.0.1).1 k.1; ends = refl })
 
 pub members_given : (p : Project) (c : Name) (t : ClassTableValue) → AreMembersOf p c t ↔ (option_map (λ (k : ClassDecl). table_of (classes_in p) c) (class_at p c) ≡ Some t)
 members_given p c t = (to, from)
@@ -114,7 +102,7 @@ module _ (p : Project) where
   rows_named (n ∷ ns) h =
       let k = is_named (classes_in p) n (decl (classes_in p) n) refl (h n (Contains-first n ns)) in
       ap (map (λ (row : IndexRow). row.class)) (one_more n ns k.0 k.1)
-      ∙ ap₂ (λ (m : Name) (ms : List Name). m ∷ ms) (decl-name (classes_in p) n k.0 k.1) (rows_named ns (λ m i. h m (Contains-later n ns m i)))
+      ∙ ap₂ (λ (m : Name) (ms : List Name). m ∷ ms) (decl_name (classes_in p) n k.0 k.1) (rows_named ns (λ m i. h m (Contains-later n ns m i)))
 
   -- a row is that of a declared name
   abbrev IsRowFor : IndexRow → Type 0
@@ -149,7 +137,7 @@ module _ (p : Project) where
       let is = is_declared p n k e in
       record {
         declaration = k;
-        counts = ap (decl (classes_in p)) (decl-name (classes_in p) n k e) ∙ e;
+        counts = ap (decl (classes_in p)) (decl_name (classes_in p) n k e) ∙ e;
         source = is.source;
         here = is.here;
         file = ap name_of is.here;
@@ -158,14 +146,14 @@ module _ (p : Project) where
   row_is : (row : IndexRow) (is : IsIndexed p row) → index_row p is.declaration ≡ row
   row_is row is =
       let build : Name → Name → IndexRow = λ c f. record { class = c; file = f } in
-      ap₂ build (decl-name (classes_in p) row.class is.declaration is.counts) (ap name_of is.here ∙ sym is.file)
+      ap₂ build (decl_name (classes_in p) row.class is.declaration is.counts) (ap name_of is.here ∙ sym is.file)
 
   named_in : (n : Name) (k : ClassDecl) → decl (classes_in p) n ≡ Some k → Contains (class_names (classes_in p)) n
   named_in n k e =
       let at = place_of (classes_in p) k (decl_stands (classes_in p) n k e) in
-      contains_at (class_names (classes_in p)) at.0 n (map_at (λ (j : ClassDecl). j.name) (classes_in p) at.0 k at.1 ∙ ap (λ (m : Name). Some m) (decl-name (classes_in p) n k e))
+      contains_at (class_names (classes_in p)) at.0 n (map_at (λ (j : ClassDecl). j.name) (classes_in p) at.0 k at.1 ∙ ap (λ (m : Name). Some m) (decl_name (classes_in p) n k e))
 
-  pub index_right : IsIndexOf p (index_of p)
+  pub index_right : IsProjectIndex p (index_of p)
   index_right = record {
     ascending = ascend_by_names (λ (row : IndexRow). row.class) (index_of p)
         (subst (IsAscendingBy NameBefore) (sym (rows_named sorted_names (λ n h. from_set name_order NameBefore names_compare (class_names (classes_in p)) n h)))
@@ -177,9 +165,9 @@ module _ (p : Project) where
     );
   }
 
-  pub index_given : (rows : List IndexRow) → (index_of p ≡ rows) ↔ IsIndexOf p rows
+  pub index_given : (rows : List IndexRow) → (index_of p ≡ rows) ↔ IsProjectIndex p rows
   index_given rows = (
-    λ e. subst (IsIndexOf p) e index_right,
+    λ e. subst (IsProjectIndex p) e index_right,
     λ is. one_list_by IndexRow Name (λ row. row.class) NameBefore names (index_of p) rows index_right.ascending is.ascending
         (λ row. (λ h. (is.exactly row).1 ((index_right.exactly row).0 h), λ h. (index_right.exactly row).1 ((is.exactly row).0 h))),
   )

@@ -9,16 +9,16 @@ use Rattle.mj_answer.specs.declared.code.Code.{Code}
 use Rattle.mj_answer.specs.declared.code.Code.TheVariants.{E201, E202, E203, E204, E205, E206}
 use Rattle.mj_answer.specs.declared.diagnostic.Diagnostic.{Diagnostic}
 use Rattle.mj_answer.specs.Order.{Before}
-use Rattle.mj_answer.proofs.Alike.{one_list_by}
-use Rattle.mj_answer.proofs.Orders.{faults}
+use Rattle.mj_answer.proofs.Alike.{nowhere}
 use Rattle.mj_members.specs.Declarations.{ClassDecl}
 use Rattle.mj_classes.specs.Declarations.{decl}
 use Rattle.mj_classes.specs.Chains.{Chain, chain_of}
+use Rattle.mj_classes.proofs.Climb.{decl_name}
 use Rattle.mj_phrases.specs.declared.verdict.Mistake.{Mistake}
 use Rattle.mj_phrases.specs.Inquiries.{Sig}
 use Rattle.mj_typing.specs.Bodies.{MethodFault, MainFault, method_faults, main_faults}
 use Rattle.mj_project.specs.Repeats.{repeats}
-use Rattle.mj_project.proofs.Listed.{contains_at, place_of, at_map, map_at}
+use Rattle.mj_project.proofs.Listed.{contains_at}
 use Rattle.profiles.specs.declared.profile.Profile.{Profile}
 use Rattle.mj_rules.specs.Sentences.{classes_in}
 use Rattle.mj_rules.specs.Worlds.{world_of}
@@ -26,27 +26,21 @@ use Rattle.mj_rules.specs.Rules.{AreTheFaults}
 use Rattle.mj_rules.specs.ClassFaults.{FaultOfClass, UndeclaredSuperclass, CyclicChain, RepeatedField, RepeatedMethod, OtherSignature, UndeclaredFieldType, InMethod, InMain, main_word}
 use Rattle.mj_rules.specs.FaultLists.{fault, when_fault, each_numbered, superclass_faults, chain_faults, is_undeclared, field_faults, may_override, override_faults, inside, rest_of, nearest_sig, method_faults_of, body_faults_of, main_method_faults, field_names, method_names, declaration_faults, body_faults, class_faults}
 use Rattle.mj_rules.specs.Answering.{fault_order}
-use Rattle.mj_rules.proofs.Numbered.{nowhere, only, from_when, IsFlagged, from_all}
+use Rattle.mj_rules.proofs.Numbered.{only, from_when, IsFlagged, from_all}
 use Rattle.mj_rules.proofs.Sets.{faults_compare, set_ascends, from_set, to_set}
-use Rattle.mj_rules.proofs.Overriding.{decl-name}
 use Rattle.mj_rules.proofs.Declared.{orderly_class, names_fit_in}
-use Rattle.mj_rules.proofs.ClassFaultLaws.{class_fault_law}
+use Rattle.mj_rules.proofs.ClassFaultLaws.{class_fault_law, from_inside, to_inside}
 use Rattle.mj_rules.proofs.LowerLaws.{chain_laws}
 use Rattle.mj_rules.proofs.LowerBodies.{body_laws}
+use Rattle.mj_rules.proofs.OneAnswer.{one_fault_list}
 use Rattle.tree_bytes.specs.Bodies.{BodyValue}
 use Rattle.tree_bytes.specs.Bodies as bodies
 use Rattle.recorder.specs.Projects.{Project}
 use Rattle.query_rules.specs.Items.{class_at, body_at, mistakes_in, fault_set, faults_of}
-use Rattle.query_laws.specs.Given.{Counts, IsFaultOf, IsInside, IsFaultInside, IsFaultOutside}
+use Rattle.query_laws.specs.Given.{IsFirstDeclaration, IsFaultOf, IsInside, IsFaultInside, IsFaultOutside}
 use Rattle.query_laws.proofs.Bodies.{method_body, main_body, is_method, is_main}
 
 -- ---- lists of diagnostics
-
--- one list has just these diagnostics
-one_fault_list : (Fault : Place → Code → Type 0) (ds es : List Diagnostic) → AreTheFaults Fault ds → AreTheFaults Fault es → ds ≡ es
-one_fault_list Fault ds es a b =
-    one_list_by Diagnostic Diagnostic (λ d. d) Before faults ds es a.ascending b.ascending
-    (λ d. (λ h. (b.exactly d.place d.code).1 ((a.exactly d.place d.code).0 h), λ h. (a.exactly d.place d.code).1 ((b.exactly d.place d.code).0 h)))
 
 pub faults_given : (Fault : Place → Code → Type 0) (found : List Diagnostic) → AreTheFaults Fault found → (ds : List Diagnostic) → (found ≡ ds) ↔ AreTheFaults Fault ds
 faults_given Fault found right ds = (λ e. subst (AreTheFaults Fault) e right, λ other. one_fault_list Fault found ds right other)
@@ -126,17 +120,6 @@ module _ (profile : Profile) (cs : List ClassDecl) (k : ClassDecl) (d : Diagnost
 
 -- ---- mistakes
 
-from_inside : (m : Name) (mistakes : List Mistake) (d : Diagnostic) → Contains (inside m mistakes) d → (x : Mistake) × Contains mistakes x × (fault (places.Inside m x.mark) x.code ≡ d)
-from_inside m mistakes d h =
-    let at = place_of (inside m mistakes) d h in
-    let x = at_map (λ (y : Mistake). fault (places.Inside m y.mark) y.code) mistakes at.0 d at.1 in
-    (x.0, contains_at mistakes at.0 x.0 x.1, x.2)
-
-to_inside : (m : Name) (mistakes : List Mistake) (x : Mistake) → Contains mistakes x → Contains (inside m mistakes) (fault (places.Inside m x.mark) x.code)
-to_inside m mistakes x h =
-    let at = place_of mistakes x h in
-    contains_at (inside m mistakes) at.0 _ (map_at (λ (y : Mistake). fault (places.Inside m y.mark) y.code) mistakes at.0 x at.1)
-
 is_inside : (m : Name) (mistakes : List Mistake) (d : Diagnostic) → Contains (inside m mistakes) d → IsInside m d.place
 is_inside m mistakes d h = let x = from_inside m mistakes d h in (x.0.mark, ap (λ (e : Diagnostic). e.place) (sym x.2))
 
@@ -163,10 +146,10 @@ module _ (cs : List ClassDecl) (k : ClassDecl) (d : Diagnostic) where
 -- ---- the diagnostics of a class
 
 module _ (profile : Profile) (p : Project) (c : Name) where
-  module _ (k : ClassDecl) (e : Counts p c k) where
+  module _ (k : ClassDecl) (e : IsFirstDeclaration p c k) where
     all_law : HasJust (class_faults profile (classes_in p) k) (IsFaultOf profile p c)
     all_law place code =
-        let law = class_fault_law chain_laws body_laws profile (classes_in p) (names_fit_in p) k (ap (decl (classes_in p)) (decl-name (classes_in p) c k e) ∙ e) place code in (
+        let law = class_fault_law chain_laws body_laws profile (classes_in p) (names_fit_in p) k (ap (decl (classes_in p)) (decl_name (classes_in p) c k e) ∙ e) place code in (
           λ h. record { declaration = k; counts = e; is_fault = law.0 h },
           λ f. law.1 (subst (λ (j : ClassDecl). FaultOfClass profile (classes_in p) j place code) (same_Some f.declaration k (sym f.counts ∙ e)) f.is_fault),
         )
@@ -181,7 +164,7 @@ module _ (profile : Profile) (p : Project) (c : Name) where
     )
 
   -- the list is empty where the class isn't declared
-  class_right : (Fault : Place → Code → Type 0) (faults : ClassDecl → List Diagnostic) → ((place : Place) (code : Code) → Fault place code → (k : ClassDecl) × Counts p c k) → ((k : ClassDecl) → Counts p c k → HasJust (faults k) Fault)
+  class_right : (Fault : Place → Code → Type 0) (faults : ClassDecl → List Diagnostic) → ((place : Place) (code : Code) → Fault place code → (k : ClassDecl) × IsFirstDeclaration p c k) → ((k : ClassDecl) → IsFirstDeclaration p c k → HasJust (faults k) Fault)
       → AreTheFaults Fault (faults_of faults (class_at p c))
   class_right Fault faults declared law = by_class (class_at p c) refl
     where
@@ -208,7 +191,7 @@ module _ (profile : Profile) (p : Project) (c m : Name) where
   found_in o = inside m (mistakes_in (world_of (classes_in p)) c o)
 
   -- a mistake in the body is a diagnostic of the class in the method
-  inside_by : (k : ClassDecl) → Counts p c k → (n : Name) → n ≡ m → (x : Mistake) (place : Place) (code : Code) → FaultOfClass profile (classes_in p) k (places.Inside n x.mark) x.code → fault (places.Inside m x.mark) x.code ≡ fault place code
+  inside_by : (k : ClassDecl) → IsFirstDeclaration p c k → (n : Name) → n ≡ m → (x : Mistake) (place : Place) (code : Code) → FaultOfClass profile (classes_in p) k (places.Inside n x.mark) x.code → fault (places.Inside m x.mark) x.code ≡ fault place code
       → IsFaultInside profile p c m place code
   inside_by k e n named x place code f same =
       let at_m = subst (λ (a : Name). FaultOfClass profile (classes_in p) k (places.Inside a x.mark) x.code) named f in (
@@ -222,14 +205,14 @@ module _ (profile : Profile) (p : Project) (c m : Name) where
       let x = from_inside m (main_faults (world_of (classes_in p)) (record { name = c; statement = s })) (fault place code) h in
       let is = is_main p c m s e in
       let k = is.0.declaration in
-      let named = decl-name (classes_in p) c k is.0.first_class in
+      let named = decl_name (classes_in p) c k is.0.first_class in
       let ill = subst (λ (n : Name). MainFault (world_of (classes_in p)) (record { name = n; statement = s }) x.0) (sym named) ((body_laws.main (world_of (classes_in p)) (record { name = c; statement = s }) x.0).1 x.1) in
       inside_by k is.0.first_class main_word is.1 x.0 place code (InMain s x.0 is.0.main ill) x.2
   inside_from place code (Some (bodies.OfMethod a)) e h =
       let x = from_inside m (method_faults (world_of (classes_in p)) c a) (fault place code) h in
       let is = is_method p c m a e in
       let k = is.0.declaration in
-      let named = decl-name (classes_in p) c k is.0.first_class in
+      let named = decl_name (classes_in p) c k is.0.first_class in
       let fits = (orderly_class p c k is.0.first_class).names_fit a (contains_at k.methods is.0.number a is.0.first_method.here) in
       let ill = subst (λ (n : Name). MethodFault (world_of (classes_in p)) n a x.0) (sym named) ((body_laws.method (world_of (classes_in p)) c a fits x.0).1 x.1) in
       inside_by k is.0.first_class a.name is.1 x.0 place code (InMethod is.0.number a x.0 is.0.first_method ill) x.2
@@ -239,7 +222,7 @@ module _ (profile : Profile) (p : Project) (c m : Name) where
       subst (λ (a : Name). Contains (found_in (body_at p c m)) (fault (places.Inside a mark) code)) (sym named)
       (subst (λ (b : Option BodyValue). Contains (found_in b) (fault (places.Inside m mark) code)) (sym body) h)
 
-  module _ (k : ClassDecl) (e : Counts p c k) where
+  module _ (k : ClassDecl) (e : IsFirstDeclaration p c k) where
     inside_to : (place : Place) (code : Code) → FaultOfClass profile (classes_in p) k place code → (mark : ℕ) → place ≡ places.Inside m mark → Contains (found_in (body_at p c m)) (fault place code)
     inside_to place code (UndeclaredSuperclass u s d) mark at = absurd cc
     inside_to place code (CyclicChain chain u s) mark at = absurd cc
@@ -250,13 +233,13 @@ module _ (profile : Profile) (p : Project) (c m : Name) where
     inside_to place code (InMethod n a x is ill) mark at =
         let named = same_name at in
         let fits = (orderly_class p c k e).names_fit a (contains_at k.methods n a is.here) in
-        let at_c = subst (λ (b : Name). MethodFault (world_of (classes_in p)) b a x) (decl-name (classes_in p) c k e) ill in
+        let at_c = subst (λ (b : Name). MethodFault (world_of (classes_in p)) b a x) (decl_name (classes_in p) c k e) ill in
         let listed = (body_laws.method (world_of (classes_in p)) c a fits x).0 at_c in
         in_body (Some (bodies.OfMethod a)) (method_body p c m a (record { declaration = k; first_class = e; number = n; first_method = is }) named) a.name named x.mark x.code
         (to_inside m (method_faults (world_of (classes_in p)) c a) x listed)
     inside_to place code (InMain s x is ill) mark at =
         let named = same_name at in
-        let at_c = subst (λ (b : Name). MainFault (world_of (classes_in p)) (record { name = b; statement = s }) x) (decl-name (classes_in p) c k e) ill in
+        let at_c = subst (λ (b : Name). MainFault (world_of (classes_in p)) (record { name = b; statement = s }) x) (decl_name (classes_in p) c k e) ill in
         let listed = (body_laws.main (world_of (classes_in p)) (record { name = c; statement = s }) x).0 at_c in
         in_body (Some (bodies.OfMain s)) (main_body p c m s (record { declaration = k; first_class = e; main = is }) named) main_word named x.mark x.code
         (to_inside m (main_faults (world_of (classes_in p)) (record { name = c; statement = s })) x listed)

@@ -9,8 +9,7 @@ use Rattle.item_ids.specs.Keys.{key_cmp}
 use Rattle.item_ids.proofs.Apart.{test_same, test_itself}
 use Rattle.result_bytes.specs.declared.value.Value.{Value}
 use Rattle.mj_answer.specs.Order.{IsAscendingBy}
-use Rattle.mj_answer.proofs.Alike.{one_list, Contains-cases, Contains-first, Contains-later}
-use Rattle.mj_rules.proofs.Numbered.{nowhere}
+use Rattle.mj_answer.proofs.Alike.{one_list, Contains-cases, Contains-first, Contains-later, nowhere}
 use Rattle.mj_project.proofs.Listed.{contains_at}
 use Rattle.recorder.specs.Programs.{Prog, Ret, Ask, asks}
 use Rattle.recorder.proofs.Recorded.{all_at}
@@ -18,7 +17,7 @@ use Rattle.recorder.proofs.Seen.{unseen_last}
 use Rattle.recorder.specs.Backed.{is_seen}
 use Rattle.query_rules.specs.Reads.{asked_keys, first_keys, reads}
 use Rattle.query_rules.proofs.Firsts.{firsts_new}
-use Rattle.query_laws.specs.Laws.{StandsFirst, AreFirsts, RunAsks, Ended, Asked, ReadLaws}
+use Rattle.query_laws.specs.Laws.{StandsFirst, AreFirsts, RunAsks, Ended, Asked, QueryReadLaws}
 
 differs : false ≡ true → ⊥
 differs e = cc
@@ -196,7 +195,7 @@ run_firsts m _ _ seen (Asked k f ks r) = by_test (is_seen seen k) (run_firsts m 
     by_test true old new = old
     by_test false old new = ap (λ (rs : List Key). k ∷ rs) new
 
-pub read_laws : ReadLaws
+pub read_laws : QueryReadLaws
 unfolding reads
 read_laws = record {
   query = λ profile p q read. firsts_law (asked_keys profile p q) read;

@@ -2,17 +2,11 @@
 use Rattle.std.proofs.Common.{◌≡◌, ℕ, zero, suc, ◌<◌, Bool, true, false, cond, List, [], ◌∷◌, slice_get, find, Some, refl, sym, ap, subst, ◌∙◌, bytes_eq, arith}
 use Rattle.std.proofs.lemmas.Option.{none-some, same_Some}
 use Rattle.std.proofs.lemmas.Slice.Eq.{bytes_eq-Decides}
+use Rattle.std.proofs.lemmas.Bool.{false_from_ne_true, false≢true}
 use Rattle.mj_tree.specs.Trees.{Name, Method}
 use Rattle.mj_members.specs.Declarations.{ClassDecl}
 use Rattle.mj_classes.specs.Members.{own_method}
 use Rattle.mj_rules.specs.ClassFaults.{IsFirstMethod}
-
-when_not : (b : Bool) → (b ≡ true → ⊥) → b ≡ false
-when_not false never = refl
-when_not true never = absurd (never refl)
-
-never_both : false ≡ true → ⊥
-never_both e = cc
 
 module _ {A : Type 0} (test : A → Bool) where
   -- it stands at this place and passes, and none before it passes
@@ -52,13 +46,13 @@ module _ {A : Type 0} (test : A → Bool) where
 pub own_of : (k : ClassDecl) (m : Name) (n : ℕ) (a : Method) → IsFirstMethod k n a → a.name ≡ m → own_method m k ≡ Some a
 own_of k m n a is named =
     first_found (λ (f : Method). bytes_eq f.name m) k.methods n a is.here ((bytes_eq-Decides a.name m).1 named)
-    (λ i y l s. when_not (bytes_eq y.name m) (λ t. is.first i y l s ((bytes_eq-Decides y.name m).0 t ∙ sym named)))
+    (λ i y l s. false_from_ne_true (bytes_eq y.name m) (λ t. is.first i y l s ((bytes_eq-Decides y.name m).0 t ∙ sym named)))
 
 pub own_is : (k : ClassDecl) (m : Name) (a : Method) → own_method m k ≡ Some a → (n : ℕ) × IsFirstMethod k n a × (a.name ≡ m)
 own_is k m a e =
     let f = found_first (λ (f : Method). bytes_eq f.name m) k.methods a e in
     let named = (bytes_eq-Decides a.name m).0 f.passes in (
       f.at,
-      record { here = f.here; first = λ i y l s same. never_both (sym (f.first i y l s) ∙ (bytes_eq-Decides y.name m).1 (same ∙ named)) },
+      record { here = f.here; first = λ i y l s same. false≢true (sym (f.first i y l s) ∙ (bytes_eq-Decides y.name m).1 (same ∙ named)) },
       named,
     )

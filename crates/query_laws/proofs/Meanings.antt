@@ -23,7 +23,7 @@ use Rattle.result_bytes.specs.Payloads.{HeaderValue, SignatureValue, ChainValue}
 use Rattle.recorder.specs.Projects.{Project}
 use Rattle.query_rules.specs.Items.{tree_at, class_at, index_of, header_of, chain_value, body_at, signature_of, mistakes_in, fault_set, faults_of}
 use Rattle.query_rules.specs.Meaning.{mean}
-use Rattle.query_laws.specs.Given.{IsTreeAt, IsHeaderOf, IsChainOf, AreMembersOf, IsBodyOf, IsSignatureOf, IsFaultOf, IsFaultInside, IsFaultOutside}
+use Rattle.query_laws.specs.Given.{IsTreeAt, IsHeaderOf, IsClassChain, AreMembersOf, IsBodyOf, IsSignatureOf, IsFaultOf, IsFaultInside, IsFaultOutside}
 use Rattle.query_laws.specs.Laws.{MeanLaws}
 use Rattle.query_laws.proofs.Ones.{through, contents, given}
 use Rattle.query_laws.proofs.Classes.{tree_given, index_given, header_given, chain_given, members_given}
@@ -78,7 +78,7 @@ mean_laws profile p = record {
   sig = λ c m o. through (contents values.Sig same_sig (option_and_then signature_of (body_at p c m)) o)
       (given (IsSignatureOf p c m) (option_and_then signature_of (body_at p c m)) (signature_given p c m) o);
   supers = λ c o. through (contents values.Supers same_supers (option_map chain_value (chain_of (classes_in p) c)) o)
-      (given (IsChainOf p c) (option_map chain_value (chain_of (classes_in p) c)) (chain_given p c) o);
+      (given (IsClassChain p c) (option_map chain_value (chain_of (classes_in p) c)) (chain_given p c) o);
   members = λ c o. through (contents values.Members same_members (option_map (λ (k : ClassDecl). table_of (classes_in p) c) (class_at p c)) o)
       (given (AreMembersOf p c) (option_map (λ (k : ClassDecl). table_of (classes_in p) c) (class_at p c)) (members_given p c) o);
   check_class = λ c faults. through (contents values.CheckClass same_check_class (faults_of (declaration_faults profile (classes_in p)) (class_at p c)) faults)

@@ -1,7 +1,7 @@
 -- What is given, and nothing else.
-use Rattle.std.proofs.Common.{◌≡◌, ◌↔◌, Option, Some, None, option_map, refl, sym, ap, ◌∙◌}
-use Rattle.std.proofs.lemmas.Option.{none-some, same_Some}
-use Rattle.query_laws.specs.Given.{IsGiven}
+use Rattle.std.proofs.Common.{◌≡◌, ◌↔◌, Option, Some, None, refl, sym, ap, ◌∙◌}
+use Rattle.std.proofs.lemmas.Option.{none-some}
+use Rattle.query_laws.specs.Given.{IsGivenOrNone}
 
 pub through : {A B C : Type 0} → (A ↔ B) → (B ↔ C) → (A ↔ C)
 through f g = (λ a. g.0 (f.0 a), λ c. f.1 (g.1 c))
@@ -15,10 +15,6 @@ empty None never = refl
 empty (Some x) never = absurd (never x refl)
 
 -- what is found is what is given, where each thing that is given is found
-pub given : {X : Type 0} (Is : X → Type 0) (found : Option X) → ((x : X) → Is x ↔ (found ≡ Some x)) → (o : Option X) → (found ≡ o) ↔ IsGiven Is o
+pub given : {X : Type 0} (Is : X → Type 0) (found : Option X) → ((x : X) → Is x ↔ (found ≡ Some x)) → (o : Option X) → (found ≡ o) ↔ IsGivenOrNone Is o
 given Is found law None = (λ e x is. none-some x (sym e ∙ (law x).0 is), λ none. empty found (λ x e. none x ((law x).1 e)))
 given Is found law (Some x) = (λ e. (law x).1 e, λ is. (law x).0 is)
-
-pub from_map : {A B : Type 0} (f : A → B) (o : Option A) (y : B) → option_map f o ≡ Some y → (x : A) × (o ≡ Some x) × (f x ≡ y)
-from_map f None y e = absurd (none-some y e)
-from_map f (Some x) y e = (x, refl, same_Some (f x) y e)

@@ -23,9 +23,9 @@ use Rattle.recorder.specs.Projects.{Project, bytes_at}
 use Rattle.query_rules.specs.Items.{end_value}
 
 -- what is given, or None where nothing is
-abbrev pub IsGiven : {X : Type 0} → (X → Type 0) → Option X → Type 0
-IsGiven {X} Is None = (x : X) → Is x → ⊥
-IsGiven Is (Some x) = Is x
+abbrev pub IsGivenOrNone : {X : Type 0} → (X → Type 0) → Option X → Type 0
+IsGivenOrNone {X} Is None = (x : X) → Is x → ⊥
+IsGivenOrNone Is (Some x) = Is x
 
 -- ---- files and classes
 
@@ -45,33 +45,33 @@ pub record IsDeclaration (p : Project) (c : Name) (k : ClassDecl) : Type 0 where
       → slice_get p i ≡ Some earlier → IsSentence earlier.bytes t → decl (classes_of i t) c ≡ None
 
 -- the declaration of the class that counts
-abbrev pub Counts : Project → Name → ClassDecl → Type 0
-Counts p c k = decl (classes_in p) c ≡ Some k
+abbrev pub IsFirstDeclaration : Project → Name → ClassDecl → Type 0
+IsFirstDeclaration p c k = decl (classes_in p) c ≡ Some k
 
 -- a class, and the file of its declaration
 pub record IsIndexed (p : Project) (row : IndexRow) : Type 0 where
   pub declaration : ClassDecl
-  pub counts : Counts p row.class declaration
+  pub counts : IsFirstDeclaration p row.class declaration
   pub source : SourceFile
   pub here : slice_get p declaration.file ≡ Some source
   pub file : row.file ≡ source.name
 
 -- each class with its file, ascending by name
-pub record IsIndexOf (p : Project) (rows : List IndexRow) : Type 0 where
+pub record IsProjectIndex (p : Project) (rows : List IndexRow) : Type 0 where
   pub ascending : IsAscendingByName (λ row. row.class) rows
   pub exactly : (row : IndexRow) → Contains rows row ↔ IsIndexed p row
 
 -- main or not, the superclass, all fields, the names of all methods
 pub record IsHeaderOf (p : Project) (c : Name) (header : HeaderValue) : Type 0 where
   pub declaration : ClassDecl
-  pub counts : Counts p c declaration
+  pub counts : IsFirstDeclaration p c declaration
   pub is_main : header.is_main ≡ is_some declaration.main
   pub superclass : header.superclass ≡ declaration.superclass
   pub fields : header.fields ≡ declaration.fields
   pub methods : header.methods ≡ map (λ m. m.name) declaration.methods
 
 -- the chain of a class, and how it ends
-pub record IsChainOf (p : Project) (c : Name) (chain : ChainValue) : Type 0 where
+pub record IsClassChain (p : Project) (c : Name) (chain : ChainValue) : Type 0 where
   pub end : EndOf
   pub is_chain : IsChain (classes_in p) c chain.classes end
   pub ends : chain.end ≡ end_value end
@@ -79,7 +79,7 @@ pub record IsChainOf (p : Project) (c : Name) (chain : ChainValue) : Type 0 wher
 -- all members that a class has
 pub record AreMembersOf (p : Project) (c : Name) (table : ClassTableValue) : Type 0 where
   pub declaration : ClassDecl
-  pub counts : Counts p c declaration
+  pub counts : IsFirstDeclaration p c declaration
   pub is_table : IsTableOf (classes_in p) c table
 
 -- ---- methods
@@ -105,7 +105,7 @@ pub record IsSignatureOf (p : Project) (c m : Name) (signature : SignatureValue)
 pub record IsFaultOf (profile : Profile) (p : Project) (c : Name) (place : Place)
     (code : Code) : Type 0 where
   pub declaration : ClassDecl
-  pub counts : Counts p c declaration
+  pub counts : IsFirstDeclaration p c declaration
   pub is_fault : FaultOfClass profile (classes_in p) declaration place code
 
 -- the place is in the method

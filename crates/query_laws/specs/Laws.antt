@@ -2,6 +2,7 @@
 use Rattle.std.specs.Prelude.{◌≡◌, ◌≢◌, ◌↔◌, ℕ, ◌<◌, List, [], ◌∷◌, Option, Some, Contains, slice_get}
 use Rattle.item_ids.specs.declared.key.Key.{Key}
 use Rattle.item_ids.specs.declared.key.Key.TheVariants as keys
+use Rattle.item_ids.specs.KeyLists.{NoneTwice}
 use Rattle.mj_tree.specs.Trees.{Name, File}
 use Rattle.mj_answer.specs.declared.diagnostic.Diagnostic.{Diagnostic}
 use Rattle.mj_answer.specs.AnswerValues.{ClassTableValue, AnswerValue}
@@ -19,34 +20,33 @@ use Rattle.result_bytes.specs.declared.value.Value.TheVariants as values
 use Rattle.result_bytes.specs.declared.files.IndexRow.{IndexRow}
 use Rattle.result_bytes.specs.Payloads.{HeaderValue, SignatureValue, ChainValue}
 use Rattle.recorder.specs.Projects.{Project}
-use Rattle.recorder.specs.Backed.{NoneTwice}
 use Rattle.recorder.specs.Programs.{Prog, Ret, Ask, asks}
 use Rattle.query_rules.specs.Meaning.{mean}
 use Rattle.query_rules.specs.Reads.{asked_keys, reads}
-use Rattle.query_laws.specs.Given.{IsGiven, IsTreeAt, IsDeclaration, IsIndexOf, IsHeaderOf, IsChainOf, AreMembersOf, IsBodyOf, IsSignatureOf, IsFaultOf, IsFaultInside, IsFaultOutside}
+use Rattle.query_laws.specs.Given.{IsGivenOrNone, IsTreeAt, IsDeclaration, IsProjectIndex, IsHeaderOf, IsClassChain, AreMembersOf, IsBodyOf, IsSignatureOf, IsFaultOf, IsFaultInside, IsFaultOutside}
 
 -- the class that counts is the first that is declared
 abbrev pub DeclarationLaw : Type 0
 DeclarationLaw =
     (p : Project) (c : Name) (o : Option ClassDecl)
-    → (decl (classes_in p) c ≡ o) ↔ IsGiven (IsDeclaration p c) o
+    → (decl (classes_in p) c ≡ o) ↔ IsGivenOrNone (IsDeclaration p c) o
 
 -- a query above the inputs means just what the rules of the profile give
 pub record MeanLaws (profile : Profile) (p : Project) : Type 0 where
   pub tree : (f : Name) (o : Option File)
-      → (mean profile p (keys.Tree f) ≡ values.Tree o) ↔ IsGiven (IsTreeAt p f) o
+      → (mean profile p (keys.Tree f) ≡ values.Tree o) ↔ IsGivenOrNone (IsTreeAt p f) o
   pub index : (rows : List IndexRow)
-      → (mean profile p keys.Index ≡ values.Index rows) ↔ IsIndexOf p rows
+      → (mean profile p keys.Index ≡ values.Index rows) ↔ IsProjectIndex p rows
   pub header : (c : Name) (o : Option HeaderValue)
-      → (mean profile p (keys.Header c) ≡ values.Header o) ↔ IsGiven (IsHeaderOf p c) o
+      → (mean profile p (keys.Header c) ≡ values.Header o) ↔ IsGivenOrNone (IsHeaderOf p c) o
   pub method : (c m : Name) (o : Option BodyValue)
-      → (mean profile p (keys.Method c m) ≡ values.Method o) ↔ IsGiven (IsBodyOf p c m) o
+      → (mean profile p (keys.Method c m) ≡ values.Method o) ↔ IsGivenOrNone (IsBodyOf p c m) o
   pub sig : (c m : Name) (o : Option SignatureValue)
-      → (mean profile p (keys.Sig c m) ≡ values.Sig o) ↔ IsGiven (IsSignatureOf p c m) o
+      → (mean profile p (keys.Sig c m) ≡ values.Sig o) ↔ IsGivenOrNone (IsSignatureOf p c m) o
   pub supers : (c : Name) (o : Option ChainValue)
-      → (mean profile p (keys.Supers c) ≡ values.Supers o) ↔ IsGiven (IsChainOf p c) o
+      → (mean profile p (keys.Supers c) ≡ values.Supers o) ↔ IsGivenOrNone (IsClassChain p c) o
   pub members : (c : Name) (o : Option ClassTableValue)
-      → (mean profile p (keys.Members c) ≡ values.Members o) ↔ IsGiven (AreMembersOf p c) o
+      → (mean profile p (keys.Members c) ≡ values.Members o) ↔ IsGivenOrNone (AreMembersOf p c) o
   pub check_class : (c : Name) (faults : List Diagnostic)
       → (mean profile p (keys.CheckClass c) ≡ values.CheckClass faults)
       ↔ AreTheFaults (IsFaultOutside profile p c) faults
@@ -86,7 +86,7 @@ pub data RunAsks (m : Key → Value) : Prog → List Key → Type 0 where
   Asked : (k : Key) (f : Value → Prog) (ks : List Key)
       → RunAsks m (f (m k)) ks → RunAsks m (Ask k f) (k ∷ ks)
 
-pub record ReadLaws : Type 0 where
+pub record QueryReadLaws : Type 0 where
   -- a query reads just these of the keys in its list
   pub query : (profile : Profile) (p : Project) (q : Key) (read : List Key)
       → (read ≡ reads profile p q) ↔ AreFirsts (asked_keys profile p q) read

@@ -1,7 +1,7 @@
 //! Laws of meanings and of reads.
 ghost use Rattle.profiles.specs.declared.profile.Profile.{Profile};
 ghost use Rattle.recorder.specs.Projects.{Project};
-ghost use Rattle.query_laws.specs.Laws.{DeclarationLaw, DemandLaw, MeanLaws, ReadLaws};
+ghost use Rattle.query_laws.specs.Laws.{DeclarationLaw, DemandLaw, MeanLaws, QueryReadLaws};
 
 /// The class of a name that counts is the first one in the first file that is a sentence and declares the name.
 pub fn declaration_laws()
@@ -23,5 +23,5 @@ pub fn demand_laws()
 /// Each query reads the keys that it asks, and each run those that its program asks: none is lost, each is read once, in
 /// the order in which they are asked first.
 pub fn read_laws()
-    ensures { ReadLaws }
+    ensures { QueryReadLaws }
 {}

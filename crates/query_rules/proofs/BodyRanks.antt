@@ -7,13 +7,14 @@ use Rattle.mj_tree.specs.Trees.{Name, Expression, Expressions, Binary, Index, Le
 use Rattle.mj_tree.specs.declared.tree.Ty.{Ty}
 use Rattle.mj_tree.specs.declared.tree.Ty.TheVariants as types
 use Rattle.mj_tree.specs.declared.tree.Variable.{Variable}
+use Rattle.mj_classes.proofs.Tables.{all_append}
 use Rattle.mj_phrases.specs.Types.{is_same}
 use Rattle.mj_phrases.specs.Inquiries.{World, Sig, conclusion}
 use Rattle.mj_phrases.specs.Phrases.{type_of, types_of}
 use Rattle.mj_phrases.specs.Table.{Scope, main_scope, method_scope, local_of, is_accepted, name_phrase, phrase_of, phrases_of}
 use Rattle.tree_bytes.specs.Bodies.{BodyValue, OfMain, OfMethod}
 use Rattle.query_rules.specs.BodyReads.{type_reads, field_reads, accept_reads, value_reads, arguments_reads, called_reads, call_reads, exp_reads, exps_reads, statement_reads, statements_reads, return_reads, types_reads, method_reads, body_reads}
-use Rattle.query_rules.proofs.Firsts.{all_append, all_flat}
+use Rattle.query_rules.proofs.Firsts.{all_flat}
 
 module _ (P : Key → Type 0) (header : (c : Name) → P (keys.Header c)) (chain : (c : Name) → P (keys.Supers c)) (table : (c : Name) → P (keys.Members c)) where
   abbrev pub All : List Key → Type 0

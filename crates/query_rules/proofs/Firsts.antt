@@ -2,26 +2,24 @@
 use Rattle.std.proofs.Common.{◌≡◌, ◌≢◌, Bool, true, false, List, [], ◌∷◌, ◌++◌, map, refl, if◌then◌else◌}
 use Rattle.std.specs.Prelude.{flat_map}
 use Rattle.std.specs.List.{AllByRecursion}
+use Rattle.mj_classes.proofs.Tables.{all_append}
 use Rattle.item_ids.specs.declared.key.Key.{Key}
-use Rattle.recorder.specs.Backed.{NoneTwice, is_seen}
+use Rattle.item_ids.specs.KeyLists.{NoneTwice}
+use Rattle.item_ids.proofs.Lists.{all_map}
+use Rattle.recorder.specs.Backed.{is_seen}
 use Rattle.recorder.proofs.Seen.{unseen_last}
-use Rattle.recorder.proofs.Recorded.{all_map}
 use Rattle.query_rules.specs.Reads.{first_keys}
 
 -- ---- what holds of all keys of a list
 
 module _ {X : Type 0} (P : X → Type 0) where
-  pub all_append : (xs ys : List X) → AllByRecursion P xs → AllByRecursion P ys → AllByRecursion P (xs ++ ys)
-  all_append [] ys a b = b
-  all_append (x ∷ xs) ys a b = (a.0, all_append xs ys a.1 b)
-
   pub all_mapped : {A : Type 0} (f : A → X) → ((a : A) → P (f a)) → (items : List A) → AllByRecursion P (map f items)
   all_mapped f h [] = tt
   all_mapped f h (a ∷ rest) = (h a, all_mapped f h rest)
 
   pub all_flat : {A : Type 0} (f : A → List X) → ((a : A) → AllByRecursion P (f a)) → (items : List A) → AllByRecursion P (flat_map f items)
   all_flat f h [] = tt
-  all_flat f h (a ∷ rest) = all_append (f a) (flat_map f rest) (h a) (all_flat f h rest)
+  all_flat f h (a ∷ rest) = all_append P (f a) (flat_map f rest) (h a) (all_flat f h rest)
 
 pub firsts_all : (P : Key → Type 0) (seen ks : List Key) → AllByRecursion P ks → AllByRecursion P (first_keys seen ks)
 firsts_all P seen [] h = tt

@@ -2,11 +2,14 @@
 use Rattle.std.proofs.Common.{◌≡◌, ◌<◌, List, [], ◌∷◌, Option, Some, None, refl, arith}
 use Rattle.item_ids.specs.declared.key.Key.{Key}
 use Rattle.item_ids.specs.declared.key.Key.TheVariants as keys
+use Rattle.item_ids.specs.Inputs.{rank}
+use Rattle.item_ids.specs.KeyLists.{AreLower, NoneTwice}
 use Rattle.mj_tree.specs.Trees.{Name, Method}
 use Rattle.mj_tree.specs.declared.tree.Field.{Field}
 use Rattle.mj_members.specs.Declarations.{ClassDecl}
 use Rattle.mj_classes.specs.Chains.{chain_of, chain_names}
 use Rattle.mj_classes.specs.Members.{own_method}
+use Rattle.mj_classes.proofs.Tables.{all_append}
 use Rattle.mj_phrases.specs.Inquiries.{Sig}
 use Rattle.mj_project.specs.Projects.{names_of}
 use Rattle.profiles.specs.declared.profile.Profile.{Profile}
@@ -16,14 +19,14 @@ use Rattle.mj_rules.specs.Worlds.{world_of}
 use Rattle.mj_rules.specs.FaultLists.{same_types, rest_of, nearest_sig, method_names}
 use Rattle.mj_rules.specs.Answering.{first_classes}
 use Rattle.mj_rules.specs.Tables.{table_of}
+use Rattle.result_bytes.specs.Values.{IsOfKind}
 use Rattle.recorder.specs.Projects.{Project}
-use Rattle.recorder.specs.Backed.{rank, IsOfKind, AreLower, NoneTwice}
 use Rattle.query_rules.specs.Items.{class_at, body_at}
 use Rattle.query_rules.specs.BodyReads.{type_reads, accept_reads}
 use Rattle.query_rules.specs.Meaning.{mean}
 use Rattle.query_rules.specs.Reads.{all_trees, tree_of_class, chain_headers, signatures, row_signature, field_headers, return_chain, return_chains, overriding, bodies_of, answer_parts, class_check_reads, diagnosis_reads, asked_keys, reads}
 use Rattle.query_rules.specs.Laws.{QueryLaws}
-use Rattle.query_rules.proofs.Firsts.{all_append, all_mapped, all_flat, firsts_all, firsts_new}
+use Rattle.query_rules.proofs.Firsts.{all_mapped, all_flat, firsts_all, firsts_new}
 use Rattle.query_rules.proofs.BodyRanks.{type_all, accept_all, when_all, body_all}
 
 kind : (profile : Profile) (p : Project) (q : Key) → IsOfKind q (mean profile p q)

@@ -1,15 +1,17 @@
 -- A runner whose values and reads are those of programs meets the laws of runners.
-use Rattle.std.proofs.Common.{◌≡◌, ◌≢◌, ℕ, zero, suc, ◌<◌, Bool, true, false, List, [], ◌∷◌, ◌++◌, take, sym, ◌∙◌, ap, subst, refl, arith}
+use Rattle.std.proofs.Common.{◌≡◌, ◌≢◌, ℕ, zero, suc, Bool, true, false, List, [], ◌∷◌, ◌++◌, take, sym, ◌∙◌, ap, subst, refl}
 use Rattle.std.specs.List.{AllByRecursion}
 use Rattle.item_ids.specs.declared.key.Key.{Key}
-use Rattle.item_ids.specs.declared.key.Key.TheVariants.{Files, Source, Tree, Index, Header, Method, Sig, Supers, Members, CheckClass, CheckBody, Diags, Answer}
+use Rattle.item_ids.specs.declared.key.Key.TheVariants.{Files, Source}
+use Rattle.item_ids.specs.Inputs.{Origin, files, source, computed, origin}
+use Rattle.item_ids.specs.KeyLists.{AreLower, NoneTwice}
 use Rattle.result_bytes.specs.declared.value.Value.{Value}
-use Rattle.result_bytes.specs.Values.{kind_of_value}
+use Rattle.result_bytes.specs.Values.{kind_of_value, IsOfKind}
 use Rattle.mj_project.specs.Projects.{IsProject}
 use Rattle.recorder.specs.Projects.{Project}
-use Rattle.recorder.specs.Backed.{Meaning, ReadLists, rank, IsOfKind, AreLower, NoneTwice, Alike, NextAlike, ValueAlike, ReadLaws, RunnerLaws, is_seen}
+use Rattle.recorder.specs.Backed.{Meaning, ReadLists, Alike, NextAlike, ValueAlike, ReadLaws, RunnerLaws, is_seen}
 use Rattle.recorder.specs.Programs.{Prog, Ret, Ask, runs, asks, Fits, Tied}
-use Rattle.recorder.proofs.Recorded.{all_last, all_map}
+use Rattle.item_ids.proofs.Lists.{all_push, all_map}
 use Rattle.recorder.proofs.Seen.{seen_alike, unseen_last}
 use Rattle.recorder.proofs.Reach.{asks_seen, asks_new}
 
@@ -73,7 +75,7 @@ asks_next (Ask k f) m n seen i s a = go i (λ j. asks_next (f (m k)) m n seen j 
     go zero known new false e a = new_both e zero refl
     go (suc j) known new false e a =
         let b : Alike m n (k ∷ take j (asks (f (m k)) m (seen ++ k ∷ []))) = subst (λ l. Alike m n (take (suc j) l)) (asks_new k f m seen e) a in
-        new_both e (suc j) (ap (λ l. k ∷ l) (new j (all_last (λ x. m x ≡ n x) seen k s b.0) b.1 ∙ ap (λ v. take (suc j) (asks (f v) n (seen ++ k ∷ []))) b.0))
+        new_both e (suc j) (ap (λ l. k ∷ l) (new j (all_push (λ x. m x ≡ n x) seen k s b.0) b.1 ∙ ap (λ v. take (suc j) (asks (f v) n (seen ++ k ∷ []))) b.0))
 
 asks_same : (p : Prog) (m n : Key → Value) (seen : List Key) → Alike m n seen → Alike m n (asks p m seen) → runs p m ≡ runs p n
 unfolding asks runs
@@ -88,40 +90,19 @@ asks_same (Ask k f) m n seen s a = go (asks_same (f (m k)) m n seen s) (asks_sam
     go i j true e = next (seen_alike m n seen k e s) (i (subst (Alike m n) (asks_seen k f m seen e) a))
     go i j false e =
         let b : Alike m n (k ∷ asks (f (m k)) m (seen ++ k ∷ [])) = subst (Alike m n) (asks_new k f m seen e) a in
-        next b.0 (j (all_last (λ x. m x ≡ n x) seen k s b.0) b.1)
+        next b.0 (j (all_push (λ x. m x ≡ n x) seen k s b.0) b.1)
 
 -- ---- the laws
 
--- an input, or a key above
-data Place : Key → Type 0 where
-  IsFiles : Place Files
-  IsSource : (file : List ℕ) → Place (Source file)
-  IsAbove : {q : Key} → 0 < rank q → Place q
-
-place_of : (q : Key) → Place q
-place_of Files = IsFiles
-place_of (Source file) = IsSource file
-place_of (Tree file) = IsAbove (omega arith)
-place_of Index = IsAbove (omega arith)
-place_of (Header class) = IsAbove (omega arith)
-place_of (Method class member) = IsAbove (omega arith)
-place_of (Sig class member) = IsAbove (omega arith)
-place_of (Supers class) = IsAbove (omega arith)
-place_of (Members class) = IsAbove (omega arith)
-place_of (CheckClass class) = IsAbove (omega arith)
-place_of (CheckBody class member) = IsAbove (omega arith)
-place_of (Diags class) = IsAbove (omega arith)
-place_of Answer = IsAbove (omega arith)
-
 module _ (prog_of other : Key → Prog) (m n : Meaning) (l k : ReadLists) (t : Tied prog_of m l) (u : Tied other n k) where
-  next_law : (p r : Project) (q : Key) (i : ℕ) → prog_of q ≡ other q → Place q → NextAlike m l n k p r q i
-  next_law p r _ i e IsFiles h g a = ap (take (suc i)) ((t.inputs p h).no_reads Files refl ∙ sym ((u.inputs r g).no_reads Files refl))
-  next_law p r _ i e (IsSource file) h g a = ap (take (suc i)) ((t.inputs p h).no_reads (Source file) refl ∙ sym ((u.inputs r g).no_reads (Source file) refl))
-  next_law p r q i e (IsAbove above) h g a =
-      ap (take (suc i)) ((t.each q above).asked p h)
-      ∙ asks_next (prog_of q) (m p) (n r) [] i tt (subst (λ ks. Alike (m p) (n r) (take i ks)) ((t.each q above).asked p h) a)
+  next_law : (p r : Project) (q : Key) (i : ℕ) → prog_of q ≡ other q → Origin q → NextAlike m l n k p r q i
+  next_law p r _ i e files h g a = ap (take (suc i)) ((t.inputs p h).no_reads Files refl ∙ sym ((u.inputs r g).no_reads Files refl))
+  next_law p r _ i e (source file) h g a = ap (take (suc i)) ((t.inputs p h).no_reads (Source file) refl ∙ sym ((u.inputs r g).no_reads (Source file) refl))
+  next_law p r _ i e (computed q is) h g a =
+      ap (take (suc i)) ((t.each q is.above).asked p h)
+      ∙ asks_next (prog_of q) (m p) (n r) [] i tt (subst (λ ks. Alike (m p) (n r) (take i ks)) ((t.each q is.above).asked p h) a)
       ∙ ap (λ x. take (suc i) (asks x (n r) [])) e
-      ∙ ap (take (suc i)) (sym ((u.each q above).asked r g))
+      ∙ ap (take (suc i)) (sym ((u.each q is.above).asked r g))
 
   same_law : (p r : Project) (q : Key) → prog_of q ≡ other q → ValueAlike m l n k p r q
   same_law p r q e h g above a =
@@ -131,36 +112,36 @@ module _ (prog_of other : Key → Prog) (m n : Meaning) (l k : ReadLists) (t : T
       ∙ sym ((u.each q above).means r g)
 
 module _ (prog_of : Key → Prog) (mean : Meaning) (reads : ReadLists) (t : Tied prog_of mean reads) where
-  kind_law : (p : Project) (q : Key) → IsProject p → Place q → IsOfKind q (mean p q)
-  kind_law p _ h IsFiles = ap kind_of_value (t.inputs p h).files
-  kind_law p _ h (IsSource file) = ap kind_of_value ((t.inputs p h).source file)
-  kind_law p q h (IsAbove above) = subst (IsOfKind q) (sym ((t.each q above).means p h)) (runs_kind q (prog_of q) (mean p) (t.each q above).fits)
+  kind_law : (p : Project) (q : Key) → IsProject p → Origin q → IsOfKind q (mean p q)
+  kind_law p _ h files = ap kind_of_value (t.inputs p h).files
+  kind_law p _ h (source file) = ap kind_of_value ((t.inputs p h).source file)
+  kind_law p _ h (computed q is) = subst (IsOfKind q) (sym ((t.each q is.above).means p h)) (runs_kind q (prog_of q) (mean p) (t.each q is.above).fits)
 
-  lower_law : (p : Project) (q : Key) → IsProject p → Place q → AreLower q (reads p q)
-  lower_law p _ h IsFiles = subst (AreLower Files) (sym ((t.inputs p h).no_reads Files refl)) tt
-  lower_law p _ h (IsSource file) = subst (AreLower (Source file)) (sym ((t.inputs p h).no_reads (Source file) refl)) tt
-  lower_law p q h (IsAbove above) = subst (AreLower q) (sym ((t.each q above).asked p h)) (asks_lower q (prog_of q) (mean p) [] (t.each q above).fits)
+  lower_law : (p : Project) (q : Key) → IsProject p → Origin q → AreLower q (reads p q)
+  lower_law p _ h files = subst (AreLower Files) (sym ((t.inputs p h).no_reads Files refl)) tt
+  lower_law p _ h (source file) = subst (AreLower (Source file)) (sym ((t.inputs p h).no_reads (Source file) refl)) tt
+  lower_law p _ h (computed q is) = subst (AreLower q) (sym ((t.each q is.above).asked p h)) (asks_lower q (prog_of q) (mean p) [] (t.each q is.above).fits)
 
-  once_law : (p : Project) (q : Key) → IsProject p → Place q → NoneTwice (λ k. k) (reads p q)
-  once_law p _ h IsFiles = subst (NoneTwice (λ k. k)) (sym ((t.inputs p h).no_reads Files refl)) tt
-  once_law p _ h (IsSource file) = subst (NoneTwice (λ k. k)) (sym ((t.inputs p h).no_reads (Source file) refl)) tt
-  once_law p q h (IsAbove above) = subst (NoneTwice (λ k. k)) (sym ((t.each q above).asked p h)) (asks_once (prog_of q) (mean p) [])
+  once_law : (p : Project) (q : Key) → IsProject p → Origin q → NoneTwice (λ k. k) (reads p q)
+  once_law p _ h files = subst (NoneTwice (λ k. k)) (sym ((t.inputs p h).no_reads Files refl)) tt
+  once_law p _ h (source file) = subst (NoneTwice (λ k. k)) (sym ((t.inputs p h).no_reads (Source file) refl)) tt
+  once_law p _ h (computed q is) = subst (NoneTwice (λ k. k)) (sym ((t.each q is.above).asked p h)) (asks_once (prog_of q) (mean p) [])
 
   pub program_laws : RunnerLaws mean reads
   program_laws = record {
     inputs = t.inputs;
     keys = λ p h. record {
-      kind = λ q. kind_law p q h (place_of q);
-      lower = λ q. lower_law p q h (place_of q);
-      once = λ q. once_law p q h (place_of q);
+      kind = λ q. kind_law p q h (origin q);
+      lower = λ q. lower_law p q h (origin q);
+      once = λ q. once_law p q h (origin q);
     };
-    next = λ p r q i. next_law prog_of prog_of mean mean reads reads t t p r q i refl (place_of q);
+    next = λ p r q i. next_law prog_of prog_of mean mean reads reads t t p r q i refl (origin q);
     same = λ p r q. same_law prog_of prog_of mean mean reads reads t t p r q refl;
   }
 
 -- two pairs whose program of a key is the same keep to the laws of reads at this key
 pub programs_alike : (prog_of other : Key → Prog) (m : Meaning) (l : ReadLists) (n : Meaning) (k : ReadLists) → Tied prog_of m l → Tied other n k → (q : Key) → prog_of q ≡ other q → ReadLaws m l n k q
 programs_alike prog_of other m l n k t u q e = record {
-  next = λ p r i. next_law prog_of other m n l k t u p r q i e (place_of q);
+  next = λ p r i. next_law prog_of other m n l k t u p r q i e (origin q);
   same = λ p r. same_law prog_of other m n l k t u p r q e;
 }

@@ -4,13 +4,16 @@ use Rattle.std.specs.List.{AllByRecursion}
 use Rattle.std.proofs.lemmas.List.{take-append-le, take_all, append-nil}
 use Rattle.std.proofs.Math.Nat.{eq-or-lt_of_le}
 use Rattle.item_ids.specs.declared.key.Key.{Key}
+use Rattle.item_ids.specs.Inputs.{rank}
+use Rattle.item_ids.specs.KeyLists.{AreLower}
 use Rattle.result_bytes.specs.declared.value.Value.{Value}
 use Rattle.mj_project.specs.Projects.{IsProject}
 use Rattle.recorder.specs.Projects.{Project}
-use Rattle.recorder.specs.Backed.{Meaning, ReadLists, ReadValue, keys, rank, AreLower, Gives, GivesEach, BeginsWith, Asked, IsNext, Backed, is_seen}
+use Rattle.recorder.specs.Backed.{Meaning, ReadLists, ReadValue, keys, Gives, GivesEach, BeginsWith, Asked, IsNext, Backed, is_seen}
 use Rattle.recorder.specs.Recording.{IsUnread}
 use Rattle.recorder.specs.Programs.{Prog, Ret, Ask, runs, asks, Fits, Reached, Start, Again, First}
-use Rattle.recorder.proofs.Recorded.{all_last, all_at}
+use Rattle.item_ids.proofs.Lists.{all_push}
+use Rattle.recorder.proofs.Recorded.{all_at}
 use Rattle.recorder.proofs.Seen.{seen_told, unseen_unread}
 
 all_before : {X : Type 0} (P : X → Type 0) (xs : List X) (x : X) → AllByRecursion P (xs ++ x ∷ []) → AllByRecursion P xs × P x
@@ -58,7 +61,7 @@ reached_lower prog q r _ _ Start = (tt, r)
 reached_lower prog q r _ _ (Again told k f v h c) = let i = reached_lower prog q r told (Ask k f) h in (i.0, i.1.1 v)
 reached_lower prog q r _ _ (First told k f v h u) =
     let i = reached_lower prog q r told (Ask k f) h in
-    (subst (AreLower q) (sym (keys_last told (record { key = k; value = v }))) (all_last (λ l. rank l < rank q) (keys told) k i.0 i.1.0), i.1.1 v)
+    (subst (AreLower q) (sym (keys_last told (record { key = k; value = v }))) (all_push (λ l. rank l < rank q) (keys told) k i.0 i.1.0), i.1.1 v)
 
 module _ (mean : Meaning) (reads : ReadLists) (q : Key) where
   asked_more : (told : List ReadValue) (t : ReadValue) → Asked mean reads q told → IsNext mean reads q told t.key → Asked mean reads q (told ++ t ∷ [])

@@ -2,7 +2,7 @@
 use Rattle.std.proofs.Common.{◌≡◌, ◌⊎◌, inl, inr, sym, ◌∙◌, ap, subst, refl, IfSome, Option, option_map, Some, None}
 use Rattle.item_ids.specs.declared.key.Key.{Key}
 use Rattle.result_bytes.specs.declared.value.Value.{Value}
-use Rattle.recorder.specs.Recording.{Recording, key_of, IsUnread, IsForMemory, IsByReader, Answers, Refuses}
+use Rattle.recorder.specs.Recording.{Recording, key_of, IsUnread, IsForMemory, IsByReader, Answers, RefusesRead}
 use Rattle.recorder.specs.Programs.{Prog, Ask, Reached, Again, First, IsAt, Halts, IsAsked, Goes, GivesUp}
 use Rattle.recorder.specs.declared.reader.ReadFault.{ReadFault}
 use Rattle.recorder.specs.declared.refused.Refused.{Refused}
@@ -35,7 +35,7 @@ module _ {D : Type 0} (prog : Prog) (faults : Key → ReadFault → Type 0) (k :
   key_kept None h = tt
   key_kept (Some x) h = h
 
-  pub ask_refused : Refuses faults old k e new → IsAt prog old (Ask k f) → Halts prog (Read e) new
+  pub ask_refused : RefusesRead faults old k e new → IsAt prog old (Ask k f) → Halts prog (Read e) new
   ask_refused r s = record {
     rest = Ask k f;
     reached = subst (λ told. Reached prog told (Ask k f)) (sym r.told) s.reached;

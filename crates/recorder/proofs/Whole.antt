@@ -1,10 +1,12 @@
 -- A run of a runner whose values and reads are those of programs keeps to the contract of runs.
 use Rattle.std.proofs.Common.{◌≡◌, ◌<◌, [], sym, ◌∙◌, ap, subst, IfSome, Option, Some, None, Result, Ok, Err, IfOk, IfErr}
 use Rattle.item_ids.specs.declared.key.Key.{Key}
+use Rattle.item_ids.specs.Inputs.{rank}
 use Rattle.result_bytes.specs.declared.value.Value.{Value}
+use Rattle.result_bytes.specs.Values.{IsOfKind}
 use Rattle.mj_project.specs.Projects.{IsProject}
 use Rattle.recorder.specs.Projects.{Project}
-use Rattle.recorder.specs.Backed.{Meaning, ReadLists, rank, IsOfKind, IsNext}
+use Rattle.recorder.specs.Backed.{Meaning, ReadLists, IsNext}
 use Rattle.recorder.specs.Recording.{Recording, key_of}
 use Rattle.recorder.specs.Runs.{IsRun}
 use Rattle.recorder.specs.Programs.{Prog, Ret, Ask, runs, asks, Fits, Reached, Start, IsAt, IsAsked, Goes, GivesUp, Performs, TiedAt}

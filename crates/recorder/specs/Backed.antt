@@ -1,16 +1,17 @@
 -- What queries mean and read in a project, and what the reads of a run say of its result.
-use Rattle.std.specs.Prelude.{◌≡◌, ◌≢◌, ℕ, suc, ◌<◌, List, [], ◌∷◌, ◌++◌, length, take, map, Bool, true, false, if◌then◌else◌}
+use Rattle.std.specs.Prelude.{◌≡◌, ℕ, suc, ◌<◌, List, [], ◌∷◌, ◌++◌, length, take, map, Bool, true, false, if◌then◌else◌}
 use Rattle.std.specs.List.{AllByRecursion}
 use Rattle.std.specs.Ordering.{is_eq}
 use Rattle.profiles.specs.declared.profile.Profile.{Profile}
 use Rattle.item_ids.specs.declared.kind.Kind.{Kind}
 use Rattle.item_ids.specs.declared.key.Key.{Key}
 use Rattle.item_ids.specs.declared.key.Key.TheVariants.{Files, Source}
-use Rattle.item_ids.specs.Kinds.{rank_of}
 use Rattle.item_ids.specs.Keys.{kind_of, IsKey, key_cmp}
+use Rattle.item_ids.specs.Inputs.{rank}
+use Rattle.item_ids.specs.KeyLists.{NoneTwice, AreLower}
 use Rattle.result_bytes.specs.declared.value.Value.{Value}
 use Rattle.result_bytes.specs.declared.value.Value.TheVariants as values
-use Rattle.result_bytes.specs.Values.{kind_of_value, IsValue}
+use Rattle.result_bytes.specs.Values.{IsValue, IsOfKind}
 use Rattle.mj_project.specs.Projects.{names_of, IsProject}
 use Rattle.recorder.specs.Projects.{Project, bytes_at}
 
@@ -22,26 +23,10 @@ Meaning = Project → Key → Value
 abbrev pub ReadLists : Type 0
 ReadLists = Project → Key → List Key
 
-abbrev pub rank : Key → ℕ
-rank k = rank_of (kind_of k)
-
 -- the key is one of these
 abbrev pub is_seen : List Key → Key → Bool
 is_seen [] k = false
 is_seen (x ∷ xs) k = if is_eq (key_cmp x k) then true else is_seen xs k
-
--- a value is of the kind of a key
-abbrev pub IsOfKind : Key → Value → Type 0
-IsOfKind k v = kind_of_value v ≡ kind_of k
-
--- each of the keys is of lower rank than q
-abbrev pub AreLower : Key → List Key → Type 0
-AreLower q ks = AllByRecursion (λ k. rank k < rank q) ks
-
--- no two of them have the same key
-abbrev pub NoneTwice : {A : Type 0} → (A → Key) → List A → Type 0
-NoneTwice key [] = Unit {0}
-NoneTwice key (x ∷ xs) = AllByRecursion (λ y. key y ≢ key x) xs × NoneTwice key xs
 
 -- ---- what a runner's meaning and reads keep
 

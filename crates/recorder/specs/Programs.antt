@@ -1,10 +1,12 @@
 -- Query programs: which keys are asked, one after the other, and what comes of the answers.
 use Rattle.std.specs.Prelude.{◌≡◌, ◌<◌, ℕ, if◌then◌else◌, List, [], ◌∷◌, ◌++◌, Contains, drop, None, IfSome, Result, IfOk, IfErr}
 use Rattle.item_ids.specs.declared.key.Key.{Key}
+use Rattle.item_ids.specs.Inputs.{rank}
 use Rattle.result_bytes.specs.declared.value.Value.{Value}
+use Rattle.result_bytes.specs.Values.{IsOfKind}
 use Rattle.mj_project.specs.Projects.{IsProject}
 use Rattle.recorder.specs.Projects.{Project}
-use Rattle.recorder.specs.Backed.{Meaning, ReadLists, ReadValue, rank, IsOfKind, InputLaws, is_seen}
+use Rattle.recorder.specs.Backed.{Meaning, ReadLists, ReadValue, InputLaws, is_seen}
 use Rattle.recorder.specs.Recording.{Recording, IsUnread, key_of}
 use Rattle.recorder.specs.Runs.{TellsFault}
 use Rattle.recorder.specs.declared.runner.RunFault.{RunFault}

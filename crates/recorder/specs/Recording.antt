@@ -4,8 +4,10 @@ use Rattle.std.specs.List.{AllByRecursion}
 use Rattle.std.specs.Ordering.{is_eq}
 use Rattle.item_ids.specs.declared.key.Key.{Key}
 use Rattle.item_ids.specs.Keys.{key_cmp}
+use Rattle.item_ids.specs.KeyLists.{NoneTwice}
 use Rattle.result_bytes.specs.declared.value.Value.{Value}
-use Rattle.recorder.specs.Backed.{ReadValue, IsTold, IsOfKind, NoneTwice}
+use Rattle.result_bytes.specs.Values.{IsOfKind}
+use Rattle.recorder.specs.Backed.{ReadValue, IsTold}
 use Rattle.recorder.specs.declared.reader.ReadFault.{ReadFault}
 use Rattle.recorder.specs.declared.reader.ReadFault.TheVariants.{OutOfMemory}
 use Rattle.recorder.specs.declared.refused.Refused.{Refused}
@@ -41,7 +43,7 @@ abbrev pub IsByReader : (Key → ReadFault → Type 0) → Key → Refused → T
 IsByReader MayRefuse k r = (r.key ≡ Some k) × (r.fault ≢ OutOfMemory) × MayRefuse k r.fault
 
 -- what a recorder keeps over a reader with these answers and faults
-pub record Keeps (MayAnswer : Key → Value → Type 0) (MayRefuse : Key → ReadFault → Type 0)
+pub record KeepsReads (MayAnswer : Key → Value → Type 0) (MayRefuse : Key → ReadFault → Type 0)
     (told : List ReadValue) (refused : Option Refused) : Type 0 where
   pub answers : AllByRecursion (λ t. MayAnswer t.key t.value) told
   pub held : AllByRecursion IsTold told
@@ -67,7 +69,7 @@ pub record RefusesFirst {D : Type 0} (MayRefuse : Key → ReadFault → Type 0) 
       ⊎ (IsByReader MayRefuse k r × IsUnread k old.told))
 
 -- It is refused with f, which is kept, or as a read before it.
-pub record Refuses {D : Type 0} (MayRefuse : Key → ReadFault → Type 0) (old : Recording D) (k : Key)
+pub record RefusesRead {D : Type 0} (MayRefuse : Key → ReadFault → Type 0) (old : Recording D) (k : Key)
     (f : ReadFault) (new : Recording D) : Type 0 where
   pub told : new.told ≡ old.told
   pub fault : fault_of new ≡ Some f

@@ -4,9 +4,11 @@ use Rattle.std.specs.List.{AllByRecursion}
 use Rattle.profiles.specs.declared.profile.Profile.{Profile}
 use Rattle.item_ids.specs.declared.key.Key.{Key}
 use Rattle.item_ids.specs.Keys.{IsKey}
+use Rattle.item_ids.specs.Inputs.{rank}
+use Rattle.item_ids.specs.KeyLists.{AreLower, NoneTwice}
 use Rattle.result_bytes.specs.declared.value.Value.{Value}
-use Rattle.result_bytes.specs.Values.{IsValue}
-use Rattle.recorder.specs.Backed.{Meaning, ReadLists, ReadValue, IsTold, rank, keys, IsOfKind, AreLower, NoneTwice, Asked, IsNext, Backed}
+use Rattle.result_bytes.specs.Values.{IsValue, IsOfKind}
+use Rattle.recorder.specs.Backed.{Meaning, ReadLists, ReadValue, IsTold, keys, Asked, IsNext, Backed}
 use Rattle.recorder.specs.Recording.{Recording, fault_of, key_of}
 use Rattle.recorder.specs.declared.reader.ReadFault.{ReadFault}
 use Rattle.recorder.specs.declared.runner.RunFault.{RunFault}

@@ -1,8 +1,9 @@
 //! Laws of runners by programs.
 ghost use Rattle.std.specs.Prelude.{◌≡◌, ◌<◌, Result};
 ghost use Rattle.item_ids.specs.declared.key.Key.{Key};
+ghost use Rattle.item_ids.specs.Inputs.{rank};
 ghost use Rattle.result_bytes.specs.declared.value.Value.{Value};
-ghost use Rattle.recorder.specs.Backed.{Meaning, ReadLists, rank, ReadLaws, RunnerLaws};
+ghost use Rattle.recorder.specs.Backed.{Meaning, ReadLists, ReadLaws, RunnerLaws};
 ghost use Rattle.recorder.specs.Recording.{Recording};
 ghost use Rattle.recorder.specs.Runs.{IsRun};
 ghost use Rattle.recorder.specs.Programs.{Prog, Tied, TiedAt, Performs};

@@ -2,11 +2,13 @@
 ghost use Rattle.std.specs.Prelude.{◌≡◌, ◌⊎◌, ◌<◌, [], IfOk, IfErr, None, Err};
 ghost use Rattle.std.specs.Arc.{arc_value};
 ghost use Rattle.result_bytes.specs.Values.{IsValue};
-ghost use Rattle.recorder.specs.Backed.{rank, keys, AreLower, Asked};
+ghost use Rattle.item_ids.specs.Inputs.{rank};
+ghost use Rattle.item_ids.specs.KeyLists.{AreLower};
+ghost use Rattle.recorder.specs.Backed.{keys, Asked};
 ghost use Rattle.recorder.specs.Runs.{IsOutcome, IsNextRefused, TellsFault, Logs};
 
 use crate::reader::Reader;
-use crate::recorder::Recorder;
+use crate::readers::Recorder;
 use crate::runner::{RunFault, Runner};
 use crate::told::{Read, copy_reads};
 use fingerprint::{Sealed, seal_or_share};

@@ -3,7 +3,7 @@ ghost use Rattle.std.specs.Prelude.{IfOk, IfErr};
 ghost use Rattle.std.specs.Arc.{arc_value};
 ghost use Rattle.item_ids.specs.declared.key.Key.{Key};
 ghost use Rattle.result_bytes.specs.declared.value.Value.{Value};
-ghost use Rattle.recorder.specs.Backed.{IsOfKind};
+ghost use Rattle.result_bytes.specs.Values.{IsOfKind};
 ghost use Rattle.recorder.specs.declared.reader.ReadFault.{ReadFault};
 
 use fingerprint::Sealed;

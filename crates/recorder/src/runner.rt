@@ -3,11 +3,12 @@ ghost use Rattle.std.specs.Prelude.{◌≡◌, ◌⊎◌, ◌<◌, List, [], Non
 ghost use Rattle.profiles.specs.declared.profile.Profile.{Profile};
 ghost use Rattle.item_ids.specs.declared.key.Key.{Key};
 ghost use Rattle.item_ids.specs.Keys.{kind_of};
-ghost use Rattle.recorder.specs.Backed.{Queries, rank, AreLawful};
+ghost use Rattle.item_ids.specs.Inputs.{rank};
+ghost use Rattle.recorder.specs.Backed.{Queries, AreLawful};
 ghost use Rattle.recorder.specs.Runs.{IsRun, Logs};
 
 use crate::reader::{ReadFault, Reader};
-use crate::recorder::Recorder;
+use crate::readers::Recorder;
 use item_ids::{Key, Kind};
 use profiles::Profile;
 use result_bytes::Value;

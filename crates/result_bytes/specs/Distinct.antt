@@ -1,33 +1,23 @@
 -- Names that are admitted where none in front is the same differ, and the other way round.
-use Rattle.std.proofs.Common.{◌≡◌, ℕ, Bool, true, false, List, [], ◌∷◌, ◌++◌, refl, sym, ap, subst, ◌∙◌, arith, inl, inr}
-use Rattle.std.specs.Prelude.{Contains, not, ◌||◌}
+use Rattle.std.proofs.Common.{◌≡◌, ℕ, Bool, true, false, List, [], ◌∷◌, ◌++◌, refl, sym, ap, subst, ◌∙◌, inl, inr}
+use Rattle.std.specs.Prelude.{Contains, not}
 use Rattle.std.specs.List.{list_any}
 use Rattle.std.specs.Str.{bytes_eq}
 use Rattle.std.proofs.lemmas.Slice.Eq.{bytes_eq-Decides}
-use Rattle.std.proofs.lemmas.List.Elements.{Contains-append_left, Contains-push, Contains-push_cases, at_from_Contains}
+use Rattle.std.proofs.lemmas.List.Elements.{Contains-append_left, Contains-push, Contains-push_cases}
+use Rattle.std.proofs.lemmas.Bool.{or_parts, not-true}
 use Rattle.mj_answer.proofs.Orders.{names}
-use Rattle.mj_answer.proofs.Alike.{Contains-cases, Contains-first, Contains-later}
+use Rattle.mj_answer.proofs.Alike.{Contains-cases, Contains-first, Contains-later, nowhere}
 use Rattle.byte_readers.specs.Lawful.{Admitted}
-use Rattle.result_bytes.specs.Storable.{AreDistinct}
+use Rattle.result_bytes.specs.Storable.{AreDistinctNames}
 use Rattle.result_bytes.specs.Reading.{is_new}
-
-pub nowhere : (x : List ℕ) → Contains [] x → ⊥
-nowhere x h = let a = at_from_Contains [] x h in absurd (omega (arith, a.1))
-
-pub or_false : (a b : Bool) → (a || b) ≡ false → (a ≡ false) × (b ≡ false)
-or_false true b e = absurd cc
-or_false false b e = (refl, e)
-
-pub not_true : (b : Bool) → not b ≡ true → b ≡ false
-not_true true e = absurd cc
-not_true false e = refl
 
 -- a new name isn't among those in front
 absent : (front : List (List ℕ)) (x : List ℕ) → list_any (λ other. bytes_eq other x) front ≡ false
     → Contains front x → ⊥
 absent [] x e h = nowhere x h
 absent (y ∷ front) x e h =
-    let f = or_false (bytes_eq y x) _ e in
+    let f = or_parts (bytes_eq y x) _ e in
     elim (Contains-cases y front x h) [
       | inl same ↦ (let t : true ≡ false = sym ((bytes_eq-Decides y x).1 same) ∙ f.0 in absurd cc)
       | inr later ↦ absent front x f.1 later
@@ -52,12 +42,12 @@ no_later front x [] k h c = nowhere x c
 no_later front x (y ∷ names) k h c =
     elim (Contains-cases y names x c) [
       | inl same ↦
-          absent front y (not_true _ h.0) (subst (λ (z : List ℕ). Contains front z) (sym same) k)
+          absent front y (not-true _ h.0) (subst (λ (z : List ℕ). Contains front z) (sym same) k)
       | inr later ↦
           no_later (front ++ y ∷ []) x names (Contains-append_left front (y ∷ []) x k) h.1 later
     ]
 
-pub to_distinct : (front names : List (List ℕ)) → Admitted is_new front names → AreDistinct names
+pub to_distinct : (front names : List (List ℕ)) → Admitted is_new front names → AreDistinctNames names
 to_distinct front [] h = tt
 to_distinct front (x ∷ names) h = (
   λ c. no_later (front ++ x ∷ []) x names (Contains-push front x) h.1 c,
@@ -65,7 +55,7 @@ to_distinct front (x ∷ names) h = (
 )
 
 pub from_distinct : (front names : List (List ℕ))
-    → ((x : List ℕ) → Contains front x → Contains names x → ⊥) → AreDistinct names
+    → ((x : List ℕ) → Contains front x → Contains names x → ⊥) → AreDistinctNames names
     → Admitted is_new front names
 from_distinct front [] apart h = tt
 from_distinct front (x ∷ names) apart h = (

@@ -2,8 +2,9 @@
 use Rattle.std.proofs.Common.{◌≡◌, ℕ, zero, suc, ◌<◌, ◌≤◌, Bool, true, false, cond, eqb, ltb, List, [], ◌∷◌, ◌++◌, length, take, drop, Result, Ok, Err, refl, sym, ap, subst, ◌∙◌, append_assoc, arith}
 use Rattle.std.specs.Prelude.{◌≢◌}
 use Rattle.std.specs.List.{flat_map}
-use Rattle.std.proofs.lemmas.Bool.{ltb-false, le-ltb, eqb-false, ne_eqb}
+use Rattle.std.proofs.lemmas.Bool.{ltb-false, le-ltb, eqb-false, ne_eqb, or_parts, not-true}
 use Rattle.std.proofs.lemmas.List.{take_at, drop_at, take-append-drop, length-append, length-take-le}
+use Rattle.mj_answer.proofs.Alike.{nowhere}
 use Rattle.byte_readers.specs.declared.breach.Breach.{Breach}
 use Rattle.byte_readers.specs.declared.breach.Breach.TheVariants.{Short, NotCanonical}
 use Rattle.byte_readers.specs.Spelling.{eight, name, list}
@@ -18,7 +19,7 @@ use Rattle.mj_project.specs.Projects.{most_files}
 use Rattle.result_bytes.specs.Storable.{FileNamesFit, TextFits, IndexRowFits, IndexFits, HeaderFits, SignatureFits, ChainEndFits, ChainFits}
 use Rattle.result_bytes.specs.Reading.{is_new, is_file_count, file_names_at, text_at, index_row_of, index_row_at, index_at, boolean_at, header_value, header_at, signature_value, signature_at, chain_end_at, chain_value, chain_at}
 use Rattle.answer_bytes.specs.OrderLaws.{lawful_by_name}
-use Rattle.result_bytes.specs.Distinct.{or_false, not_true, to_distinct, from_distinct, nowhere}
+use Rattle.result_bytes.specs.Distinct.{to_distinct, from_distinct}
 use Rattle.answer_bytes.specs.AnswerLaws.{leaf_takes, tag_takes}
 
 abbrev done : {A : Type 0} → A → Result A Breach
@@ -28,7 +29,7 @@ done x = Ok x
 
 some_few : (n : ℕ) → is_file_count n ≡ true → (0 < n) × (n ≤ most_files)
 some_few n e =
-    let f = or_false (eqb n 0) (ltb most_files n) (not_true _ e) in
+    let f = or_parts (eqb n 0) (ltb most_files n) (not-true _ e) in
     let some : n ≢ 0 = eqb-false n 0 f.0 in
     (omega (arith, some), ltb-false _ _ f.1)
 

@@ -3,5 +3,6 @@ pub mod Canon
 pub mod Storable
 pub mod Reading
 pub mod Values
+pub mod Parts
 pub mod Distinct
 pub mod ItemLaws

@@ -10,15 +10,15 @@ use Rattle.mj_project.specs.Projects.{most_files}
 use Rattle.result_bytes.specs.Payloads.{HeaderValue, SignatureValue, ChainValue}
 use Rattle.answer_bytes.specs.Storable.{IsCount, OrderedFits, ByName}
 
-abbrev pub AreDistinct : List (List ℕ) → Type 0
-AreDistinct [] = Unit {0}
-AreDistinct (n ∷ ns) = (Contains ns n → ⊥) × AreDistinct ns
+abbrev pub AreDistinctNames : List (List ℕ) → Type 0
+AreDistinctNames [] = Unit {0}
+AreDistinctNames (n ∷ ns) = (Contains ns n → ⊥) × AreDistinctNames ns
 
 pub record FileNamesFit (names : List (List ℕ)) : Type 0 where
   pub some : 0 < length names
   pub few : length names ≤ most_files
   pub each : AllByRecursion IsName names
-  pub distinct : AreDistinct names
+  pub distinct : AreDistinctNames names
 
 abbrev pub TextFits : List ℕ → Type 0
 TextFits bytes = IsCount (length bytes)

@@ -3,6 +3,8 @@ use Rattle.std.specs.Prelude.{◌≡◌, ℕ, ◌-◌, List, [], ◌∷◌, leng
 use Rattle.item_ids.specs.declared.kind.Kind.{Kind}
 use Rattle.item_ids.specs.declared.kind.Kind.TheVariants as kinds
 use Rattle.item_ids.specs.Kinds.{number_of}
+use Rattle.item_ids.specs.declared.key.Key.{Key}
+use Rattle.item_ids.specs.Keys.{kind_of}
 use Rattle.byte_readers.specs.declared.breach.Breach.{Breach}
 use Rattle.byte_readers.specs.declared.breach.Breach.TheVariants as breaches
 use Rattle.byte_readers.specs.Spelling.{name, option, list}
@@ -36,6 +38,10 @@ kind_of_value (CheckClass faults) = kinds.CheckClass
 kind_of_value (CheckBody faults) = kinds.CheckBody
 kind_of_value (Diags faults) = kinds.Diags
 kind_of_value (Answer a) = kinds.Answer
+
+-- a value is of the kind of a key
+abbrev pub IsOfKind : Key → Value → Type 0
+IsOfKind k v = kind_of_value v ≡ kind_of k
 
 -- what follows the kind's number
 abbrev pub content : Value → List ℕ
@@ -108,6 +114,6 @@ decoding kind (b ∷ bytes) =
     else Err WrongKind
 
 -- the answer, unless memory ran out
-abbrev pub IsUnlessMemory : Result Value Refusal → Result Value Refusal → Type 0
-IsUnlessMemory (Err OutOfMemory) answer = Unit {0}
-IsUnlessMemory result answer = result ≡ answer
+abbrev pub IsDecodedUnlessMemory : Result Value Refusal → Result Value Refusal → Type 0
+IsDecodedUnlessMemory (Err OutOfMemory) answer = Unit {0}
+IsDecodedUnlessMemory result answer = result ≡ answer

@@ -3,7 +3,7 @@ ghost use Rattle.std.specs.Prelude.{◌≡◌, ◌<◌, ◌≤◌, ◌++◌, Lis
 ghost use Rattle.mj_project.specs.Projects.{most_files};
 ghost use Rattle.byte_readers.specs.Spelling.{name, list};
 ghost use Rattle.byte_readers.specs.Reading.{Decodes, name_at, list_from};
-ghost use Rattle.result_bytes.specs.Storable.{AreDistinct, FileNamesFit, TextFits};
+ghost use Rattle.result_bytes.specs.Storable.{AreDistinctNames, FileNamesFit, TextFits};
 ghost use Rattle.result_bytes.specs.Canon.{index_row};
 ghost use Rattle.result_bytes.specs.Reading.{is_new, file_names_at, index_at};
 
@@ -11,6 +11,7 @@ use byte_readers::{
     Breach, Format, NameFormat, Ordered, ReadError, check_list, check_name, not_canonical,
     put_eight, put_list, put_name, read_ascending, read_eight, read_name, read_name_text,
 };
+use mj_answer::Named;
 use mj_lexer::Name;
 use mj_project::Project;
 use std::alloc::{AllocError, Global};
@@ -45,7 +46,7 @@ impl FileNames {
     pub fn new(names: Vec<Name>) -> Self
         requires some { 0 < length names.items }
         requires few { length names.items ≤ most_files }
-        requires distinct { AreDistinct names.items }
+        requires distinct { AreDistinctNames names.items }
         ensures { result ≡ names.items }
     {
         // What the spelling demands of the parts they keep in their types.
@@ -202,6 +203,14 @@ impl Format for TextFormat {
 pub struct IndexRow {
     pub class: Name,
     pub file: Name,
+}
+
+impl Named for IndexRow {
+    ghost name_of = { λ row. row.class };
+
+    fn name(&self) -> &Name {
+        &self.class
+    }
 }
 
 /// Classes with their files, in the order of the classes.

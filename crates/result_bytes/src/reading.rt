@@ -2,7 +2,7 @@
 ghost use Rattle.std.specs.Prelude.{◌≡◌, IfOk};
 ghost use Rattle.byte_readers.specs.Reading.{Decodes};
 ghost use Rattle.result_bytes.specs.declared.value.Value.{Value};
-ghost use Rattle.result_bytes.specs.Values.{IsValue, canon, kind_of_value, content_at, decoding, refusal, IsUnlessMemory};
+ghost use Rattle.result_bytes.specs.Values.{IsValue, canon, kind_of_value, content_at, decoding, refusal, IsDecodedUnlessMemory};
 
 use crate::class::{HeaderFormat, SignatureFormat, SupersFormat};
 use crate::files::{TextFormat, read_file_names, read_index};
@@ -20,16 +20,16 @@ pub fn decode(alloc: Global, kind: Kind, bytes: &[u8]) -> Result<Value, Refusal>
     ensures found { IfOk result (λ v. IsValue v × (kind_of_value v ≡ kind) × (bytes.now ≡ canon v)) }
     // What is spelled so is read, unless memory runs out.
     ensures only { (v : Value) → IsValue v → kind_of_value v ≡ kind → bytes.now ≡ canon v
-        → IsUnlessMemory result (Ok v) }
+        → IsDecodedUnlessMemory result (Ok v) }
     // Which refusal it is.
-    ensures exact { IsUnlessMemory result (decoding kind bytes.now) }
+    ensures exact { IsDecodedUnlessMemory result (decoding kind bytes.now) }
 {
     read_value(alloc, kind, bytes)
 }
 
 #[tactic(auto, unfolding(crate::specs::Values::decoding))]
 fn read_value(alloc: Global, kind: Kind, bytes: &[u8]) -> Result<Value, Refusal>
-    ensures { IsUnlessMemory result (decoding kind bytes.now) }
+    ensures { IsDecodedUnlessMemory result (decoding kind bytes.now) }
 {
     let [first, rest @ ..] = bytes else {
         return Err(Refusal::Short);

@@ -1,10 +1,12 @@
 //! Values of queries.
-ghost use Rattle.std.specs.Prelude.{◌≡◌};
+ghost use Rattle.std.specs.Prelude.{◌≡◌, option_copied};
 
 use crate::class::{Header, Signature, Supers};
-use crate::files::{FileNames, Index, Text};
+use crate::files::{FileNames, Index, IndexRow, Text};
 use answer_bytes::{Faults, Members, WholeAnswer};
 use item_ids::Kind;
+use mj_answer::Diagnostic;
+use mj_lexer::Name;
 use tree_bytes::{Body, Tree};
 
 /// The result of a query, one arm for each kind. `None` is the result for a key that names nothing.
@@ -59,6 +61,9 @@ impl Drop for Value {
 
 impl Value {
     ghost use Rattle.result_bytes.specs.Values.{kind_of_value};
+    ghost use Rattle.result_bytes.specs.Parts.{files_in, source_in, tree_in, index_in, header_in, body_in, signature_in, supers_in, members_in, faults_in};
+    ghost use Rattle.mj_answer.specs.Order.{IsAscendingByName};
+    ghost use Rattle.answer_bytes.specs.Storable.{AreClassFaults, ClassFaultsFit};
 
     /// The kind of query that it is a result of.
     pub fn kind(&self) -> Kind
@@ -78,6 +83,111 @@ impl Value {
             Value::CheckBody(_) => Kind::CheckBody,
             Value::Diags(_) => Kind::Diags,
             Value::Answer(_) => Kind::Answer,
+        }
+    }
+
+    /// The names of the files.
+    pub fn files(&self) -> &[Name]
+        ensures { result.now ≡ files_in self.now }
+    {
+        match self {
+            Value::Files(files) => files.names(),
+            _ => &[],
+        }
+    }
+
+    /// The bytes of a file.
+    pub fn source(&self) -> Option<&Text>
+        ensures { option_copied result ≡ source_in self.now }
+    {
+        match self {
+            Value::Source(text) => text.as_ref(),
+            _ => None,
+        }
+    }
+
+    /// The tree of a file.
+    pub fn tree(&self) -> Option<&Tree>
+        ensures { option_copied result ≡ tree_in self.now }
+    {
+        match self {
+            Value::Tree(tree) => tree.as_ref(),
+            _ => None,
+        }
+    }
+
+    /// Each class with its file. The rows ascend by class.
+    pub fn index(&self) -> &[IndexRow]
+        ensures value { result.now ≡ index_in self.now }
+        ensures ascending { IsAscendingByName (λ row. row.class) result.now }
+    {
+        match self {
+            Value::Index(index) => index.rows(),
+            _ => &[],
+        }
+    }
+
+    /// A class without its bodies.
+    pub fn header(&self) -> Option<&Header>
+        ensures { option_copied result ≡ header_in self.now }
+    {
+        match self {
+            Value::Header(header) => header.as_ref(),
+            _ => None,
+        }
+    }
+
+    /// A method, or the statement of `main`.
+    pub fn body(&self) -> Option<&Body>
+        ensures { option_copied result ≡ body_in self.now }
+    {
+        match self {
+            Value::Method(body) => body.as_ref(),
+            _ => None,
+        }
+    }
+
+    /// The types of a method.
+    pub fn signature(&self) -> Option<&Signature>
+        ensures { option_copied result ≡ signature_in self.now }
+    {
+        match self {
+            Value::Sig(signature) => signature.as_ref(),
+            _ => None,
+        }
+    }
+
+    /// The chain of a class.
+    pub fn supers(&self) -> Option<&Supers>
+        ensures { option_copied result ≡ supers_in self.now }
+    {
+        match self {
+            Value::Supers(supers) => supers.as_ref(),
+            _ => None,
+        }
+    }
+
+    /// The fields and methods of a class.
+    pub fn members(&self) -> Option<&Members>
+        ensures { option_copied result ≡ members_in self.now }
+    {
+        match self {
+            Value::Members(members) => members.as_ref(),
+            _ => None,
+        }
+    }
+
+    /// The diagnostics, of the three kinds that are lists of them.
+    pub fn faults(&self) -> &[Diagnostic]
+        ensures value { result.now ≡ faults_in self.now }
+        ensures fits { ClassFaultsFit result.now }
+        ensures places { AreClassFaults result.now }
+    {
+        match self {
+            Value::CheckClass(faults) => faults.list(),
+            Value::CheckBody(faults) => faults.list(),
+            Value::Diags(faults) => faults.list(),
+            _ => &[],
         }
     }
 }

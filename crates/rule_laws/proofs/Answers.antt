@@ -11,6 +11,7 @@ use Rattle.mj_answer.specs.declared.code.Code.{Code}
 use Rattle.mj_answer.specs.AnswerValues.{ClassAnswerValue, AnswerValue}
 use Rattle.mj_members.specs.Declarations.{ClassDecl}
 use Rattle.mj_classes.specs.Declarations.{decl}
+use Rattle.mj_classes.proofs.Climb.{decl_name}
 use Rattle.mj_phrases.specs.declared.verdict.Mistake.{Mistake}
 use Rattle.mj_typing.specs.Bodies.{MethodFault, MainFault}
 use Rattle.mj_project.specs.Projects.{SourceFile}
@@ -19,7 +20,6 @@ use Rattle.mj_rules.specs.Sentences.{classes_in}
 use Rattle.mj_rules.specs.Worlds.{world_of}
 use Rattle.mj_rules.specs.ClassFaults.{FaultOfClass, UndeclaredSuperclass, CyclicChain, RepeatedField, RepeatedMethod, OtherSignature, UndeclaredFieldType, InMethod, InMain, IsFirstMethod, main_word, main_of}
 use Rattle.mj_rules.specs.Rules.{IsAnswerFor, Rules}
-use Rattle.mj_rules.proofs.Overriding.{decl-name}
 use Rattle.mj_rules.proofs.Declared.{IsOrderly, orderly_class}
 use Rattle.rule_laws.specs.Faults.{FaultInMethod, FaultInMain}
 use Rattle.rule_laws.specs.Typing.{world_in, IsMethodIn, IsMainIn, IsFaultIn, FaultOfMethod, FaultOfMain}
@@ -90,14 +90,14 @@ module _ (profile : Profile) (files : List SourceFile) (answer : AnswerValue) (r
   method_to m is x h =
       let k = is.declaration in
       let o = orderly_class files class.name k is.first_class in
-      let named = decl-name (classes_in files) class.name k is.first_class in
+      let named = decl_name (classes_in files) class.name k is.first_class in
       let f = of_method profile (classes_in files) k o is.number m is.first_method x.mark (place.Inside m.name x.mark) x.code ((faults_are k is.first_class (place.Inside m.name x.mark) x.code).0 h) refl in
       in_method (world_in files) class.name m x (subst (λ (c : Name). MethodFault (world_in files) c m x) named f)
 
   to_method : (m : Method) (is : IsMethodIn files class.name m) (x : Mistake) → FaultInMethod (world_in files) class.name m x → Contains class.faults (fault_inside m.name x)
   to_method m is x f =
       let k = is.declaration in
-      let named = decl-name (classes_in files) class.name k is.first_class in
+      let named = decl_name (classes_in files) class.name k is.first_class in
       let g = from_method (world_in files) class.name m x f in
       (faults_are k is.first_class (place.Inside m.name x.mark) x.code).1 (InMethod is.number m x is.first_method (subst (λ (c : Name). MethodFault (world_in files) c m x) (sym named) g))
 

@@ -3,11 +3,12 @@ use Rattle.std.proofs.Common.{◌≡◌, List, [], ◌∷◌, ◌++◌, map, ref
 use Rattle.std.specs.Prelude.{Contains, ◌↔◌}
 use Rattle.std.proofs.lemmas.List.{map-append}
 use Rattle.mj_tree.specs.Trees.{Name, Statement, Statements, Block, If, While, Print, Assign, Store, done, next, Method, Main}
+use Rattle.mj_answer.proofs.Alike.{nowhere, Contains-first, Contains-later, Contains-cases}
 use Rattle.mj_phrases.specs.declared.verdict.Mistake.{Mistake}
 use Rattle.mj_phrases.specs.Inquiries.{World}
 use Rattle.mj_phrases.specs.Phrases.{Phrase, FaultIn, FaultInSome}
 use Rattle.mj_phrases.specs.Table.{Scope, method_scope, main_scope, own_phrase, statement_phrases, statements_phrases, method_phrases, main_phrases}
-use Rattle.mj_phrases.proofs.Agree.{nowhere, first, later, first_or_later, each_exact}
+use Rattle.mj_phrases.proofs.Agree.{each_exact}
 use Rattle.mj_typing.specs.Bodies.{MethodFault, MainFault, UndeclaredReturn, UndeclaredVariable, RepeatedVariable, IllPhrase, NamesFit, method_faults, main_faults}
 use Rattle.mj_typing.proofs.Mistakes.{method_listed, method_there}
 use Rattle.rule_laws.specs.Demands.{BodyPhrase, OfStatement, OfReturn}
@@ -54,17 +55,17 @@ module _ (w : World) (s : Scope) (x : Mistake) where
   some_mapped : (ps : List BodyPhrase) (q : Phrase) → Contains (map (form_of s) ps) q → FaultIn w q x → Within ps
   some_mapped [] q c f = absurd (nowhere q c)
   some_mapped (p ∷ ps) q c f =
-      elim (first_or_later (form_of s p) (map (form_of s) ps) q c) [
-        | inl is ↦ (p, first p ps, within w s p x (subst (λ (q : Phrase). FaultIn w q x) (sym is) f))
-        | inr l ↦ let r = some_mapped ps q l f in (r.0, later p ps r.0 r.1, r.2)
+      elim (Contains-cases (form_of s p) (map (form_of s) ps) q c) [
+        | inl is ↦ (p, Contains-first p ps, within w s p x (subst (λ (q : Phrase). FaultIn w q x) (sym is) f))
+        | inr l ↦ let r = some_mapped ps q l f in (r.0, Contains-later p ps r.0 r.1, r.2)
       ]
 
   mapped_some : (ps : List BodyPhrase) (p : BodyPhrase) → Contains ps p → FaultWithin w s p x → FaultInSome w (map (form_of s) ps) x
   mapped_some [] p c f = absurd (nowhere p c)
   mapped_some (q ∷ qs) p c f =
-      elim (first_or_later q qs p c) [
-        | inl is ↦ (form_of s q, first (form_of s q) (map (form_of s) qs), in_form w s q x (subst (λ (p : BodyPhrase). FaultWithin w s p x) (sym is) f))
-        | inr l ↦ let r = mapped_some qs p l f in (r.0, later (form_of s q) (map (form_of s) qs) r.0 r.1, r.2)
+      elim (Contains-cases q qs p c) [
+        | inl is ↦ (form_of s q, Contains-first (form_of s q) (map (form_of s) qs), in_form w s q x (subst (λ (p : BodyPhrase). FaultWithin w s p x) (sym is) f))
+        | inr l ↦ let r = mapped_some qs p l f in (r.0, Contains-later (form_of s q) (map (form_of s) qs) r.0 r.1, r.2)
       ]
 
 -- ---- methods and main

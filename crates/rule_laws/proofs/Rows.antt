@@ -1,7 +1,7 @@
 -- The row of each phrase agrees with the demands of the phrase.
 use Rattle.std.proofs.Common.{◌≡◌, ◌≤◌, ℕ, nat_le, Bool, true, false, cond, ◌&&◌, List, [], ◌∷◌, length, Option, Some, None, refl, sym, ap, ◌∙◌, subst, arith, inl}
 use Rattle.std.specs.Prelude.{nat_eq}
-use Rattle.std.proofs.lemmas.Bool.{leb-true, le-leb, eq-eqb, eqb-true}
+use Rattle.std.proofs.lemmas.Bool.{leb-true, le-leb, eq-eqb, eqb-true, and_parts, and_from}
 use Rattle.mj_tree.specs.Trees.{Name, Expression, Expressions, Binary, Index, Length, Call, Literal, Boolean, Named, This, NewArray, NewObject, Not, Parenthesized, none, more, Statement, Block, If, While, Print, Assign, Store}
 use Rattle.mj_tree.specs.declared.tree.Operator.{Operator}
 use Rattle.mj_tree.specs.declared.tree.Operator.TheVariants.{And, Less, Plus, Minus, Times}
@@ -16,9 +16,9 @@ use Rattle.mj_phrases.specs.Phrases.{demand, demand_asked, demand_some, is, fine
 use Rattle.mj_phrases.specs.Table.{Scope, most_value, local_of, is_accepted, are_accepted, literal, local_or_field, variable, parentheses, this, negation, binary, index, array_length, arguments, call, new_array, new_object, condition, print, assign, store, return_value, no_parts, one_part, two_parts, three_parts, some_parts}
 use Rattle.mj_phrases.specs.Cases.{Accepted, operand_type}
 use Rattle.mj_phrases.specs.Laws.{IsOfExpression, IsOfStatement}
-use Rattle.mj_phrases.proofs.ByCases.{boolean_is, int_is, array_is, accepted_from, from_accepted, variable_from, from_variable}
+use Rattle.mj_phrases.proofs.ByCases.{boolean_is, int_is, array_is, accepted_from, from_accepted, variable_from, from_variable, class_is}
 use Rattle.mj_phrases.proofs.Checks.{conclusion-and_then}
-use Rattle.rule_laws.specs.Demands.{BodyPhrase, OfExpression, OfStatement, OfReturn, parts_of, Demands, demands, IsInScope, IsInMethod, IsClass, HasMethod, AreAccepted, operand_code}
+use Rattle.rule_laws.specs.Demands.{BodyPhrase, OfExpression, OfStatement, OfReturn, parts_of, Demands, demands, IsInScope, IsInMethod, IsClassType, HasMethod, AreAccepted, operand_code}
 use Rattle.rule_laws.specs.Faults.{HaveTypes}
 use Rattle.rule_laws.proofs.Verdicts.{Tells, demand_tells, asked_tells, given_tells}
 
@@ -32,20 +32,6 @@ is_the_int t e = ap is_int e
 
 is_the_array : (t : Ty) → t ≡ ty.IntArray → is_int_array t ≡ true
 is_the_array t e = ap is_int_array e
-
-both_true : (a b : Bool) → (a && b) ≡ true → (a ≡ true) × (b ≡ true)
-both_true true b e = (refl, e)
-both_true false b e = absurd cc
-
-true_both : (a b : Bool) → a ≡ true → b ≡ true → (a && b) ≡ true
-true_both true b e f = f
-true_both false b e f = absurd cc
-
-class_is : (t : Ty) (c : Name) → class_in t ≡ Some c → t ≡ ty.Class c
-class_is ty.Int c e = absurd cc
-class_is ty.Boolean c e = absurd cc
-class_is ty.IntArray c e = absurd cc
-class_is (ty.Class d) c e = let f : d ≡ c = cc in ap (λ (x : Name). ty.Class x) f
 
 is_class : (t : Ty) (c : Name) → t ≡ ty.Class c → class_in t ≡ Some c
 is_class t c e = ap class_in e
@@ -187,10 +173,10 @@ module _ (w : World) (s : Scope) where
       (λ k. (tt, tt)))
 
   call_told : (m : Name) (t : Ty) (ts : List Ty)
-      → Tells IsOfExpression (conclusion w (call m t ts)) ((IsClass t, E310) ∷ ((u : Sig) × HasMethod w t m u, E311) ∷ ((u : Sig) × HasMethod w t m u × (length ts ≡ length u.formals), E312) ∷ ((u : Sig) × HasMethod w t m u × AreAccepted w ts u.formals, E313) ∷ [])
+      → Tells IsOfExpression (conclusion w (call m t ts)) ((IsClassType t, E310) ∷ ((u : Sig) × HasMethod w t m u, E311) ∷ ((u : Sig) × HasMethod w t m u × (length ts ≡ length u.formals), E312) ∷ ((u : Sig) × HasMethod w t m u × AreAccepted w ts u.formals, E313) ∷ [])
   unfolding call
   call_told m t ts =
-      given_tells IsOfExpression w (class_in t) (IsClass t) E310 (λ c. AsksMethod c m (λ method. demand_some method E311 (λ sig. arguments sig ts))) (((u : Sig) × HasMethod w t m u, E311) ∷ ((u : Sig) × HasMethod w t m u × (length ts ≡ length u.formals), E312) ∷ ((u : Sig) × HasMethod w t m u × AreAccepted w ts u.formals, E313) ∷ [])
+      given_tells IsOfExpression w (class_in t) (IsClassType t) E310 (λ c. AsksMethod c m (λ method. demand_some method E311 (λ sig. arguments sig ts))) (((u : Sig) × HasMethod w t m u, E311) ∷ ((u : Sig) × HasMethod w t m u × (length ts ≡ length u.formals), E312) ∷ ((u : Sig) × HasMethod w t m u × AreAccepted w ts u.formals, E313) ∷ [])
       (λ c e. (c, class_is t c e))
       (λ e h. let f : None ≡ Some h.0 = sym e ∙ is_class t h.0 h.1 in absurd cc)
       (λ c e. given_tells IsOfExpression w (w.method c m) ((u : Sig) × HasMethod w t m u) E311 (λ sig. arguments sig ts) (((u : Sig) × HasMethod w t m u × (length ts ≡ length u.formals), E312) ∷ ((u : Sig) × HasMethod w t m u × AreAccepted w ts u.formals, E313) ∷ [])
@@ -212,14 +198,14 @@ module _ (w : World) (s : Scope) where
   booleans_told : (t u : Ty) → Tells IsOfExpression (conclusion w (demand (is_boolean t && is_boolean u) E301 (is ty.Boolean))) (((t ≡ ty.Boolean) × (u ≡ ty.Boolean), E301) ∷ [])
   booleans_told t u =
       demand_tells IsOfExpression w (is_boolean t && is_boolean u) ((t ≡ ty.Boolean) × (u ≡ ty.Boolean)) E301 (is ty.Boolean) []
-      (λ e. let b = both_true (is_boolean t) (is_boolean u) e in (boolean_is t b.0, boolean_is u b.1))
-      (λ h. true_both (is_boolean t) (is_boolean u) (is_the_boolean t h.0) (is_the_boolean u h.1)) (λ h. (tt, tt))
+      (λ e. let b = and_parts (is_boolean t) (is_boolean u) e in (boolean_is t b.0, boolean_is u b.1))
+      (λ h. and_from (is_boolean t) (is_boolean u) (is_the_boolean t h.0) (is_the_boolean u h.1)) (λ h. (tt, tt))
 
   ints : (t u : Ty) → (is_int t && is_int u) ≡ true → (t ≡ ty.Int) × (u ≡ ty.Int)
-  ints t u e = let b = both_true (is_int t) (is_int u) e in (int_is t b.0, int_is u b.1)
+  ints t u e = let b = and_parts (is_int t) (is_int u) e in (int_is t b.0, int_is u b.1)
 
   are_ints : (t u : Ty) → (t ≡ ty.Int) × (u ≡ ty.Int) → (is_int t && is_int u) ≡ true
-  are_ints t u h = true_both (is_int t) (is_int u) (is_the_int t h.0) (is_the_int u h.1)
+  are_ints t u h = and_from (is_int t) (is_int u) (is_the_int t h.0) (is_the_int u h.1)
 
   binary_told : (o : Operator) (t u : Ty) → Tells IsOfExpression (conclusion w (binary o t u)) (((t ≡ operand_type o) × (u ≡ operand_type o), operand_code o) ∷ [])
   unfolding binary

@@ -5,6 +5,7 @@ use Rattle.std.proofs.lemmas.List.Elements.{Contains-append_left, Contains-appen
 use Rattle.mj_tree.specs.Trees.{Name, Expression, Named, none, more, Statement, Statements, Block, If, While, Print, Assign, Store, done, next, Method}
 use Rattle.mj_tree.specs.declared.tree.Ty.{Ty}
 use Rattle.mj_tree.specs.declared.tree.Ty.TheVariants as ty
+use Rattle.mj_answer.proofs.Alike.{nowhere, Contains-first, Contains-later, Contains-cases}
 use Rattle.mj_phrases.specs.declared.verdict.Verdict.{Verdict}
 use Rattle.mj_phrases.specs.Inquiries.{World, conclusion}
 use Rattle.mj_phrases.specs.Phrases.{Phrase, HasType, Well}
@@ -12,7 +13,6 @@ use Rattle.mj_phrases.specs.Table.{Scope, own_phrase, return_phrase}
 use Rattle.mj_phrases.specs.Cases.{Accepted, IsVariable, HasTypeByCases, IsWellThroughoutByCases, AreWellThroughoutByCases}
 use Rattle.mj_phrases.specs.Laws.{IsOfExpression, IsOfStatement}
 use Rattle.mj_phrases.proofs.ByCases.{by_cases, from_cases}
-use Rattle.mj_phrases.proofs.Agree.{nowhere, first, later, first_or_later}
 use Rattle.rule_laws.specs.Demands.{BodyPhrase, OfExpression, OfStatement, OfReturn, parts_of, demands}
 use Rattle.rule_laws.specs.Faults.{HaveTypes, AllHold, IsWell, IsWellThroughout, statements_of, all_statements, phrases_in}
 use Rattle.rule_laws.specs.PhraseLaws.{form_of}
@@ -24,17 +24,17 @@ use Rattle.rule_laws.proofs.Phrases.{form_is, to_have_types, from_have_types}
 mapped_of : (bs : List Statement) (p : BodyPhrase) → Contains (map OfStatement bs) p → (b : Statement) × Contains bs b × (OfStatement b ≡ p)
 mapped_of [] p c = absurd (nowhere p c)
 mapped_of (b ∷ bs) p c =
-    elim (first_or_later (OfStatement b) (map OfStatement bs) p c) [
-      | inl is ↦ (b, first b bs, is)
-      | inr l ↦ let r = mapped_of bs p l in (r.0, later b bs r.0 r.1, r.2)
+    elim (Contains-cases (OfStatement b) (map OfStatement bs) p c) [
+      | inl is ↦ (b, Contains-first b bs, is)
+      | inr l ↦ let r = mapped_of bs p l in (r.0, Contains-later b bs r.0 r.1, r.2)
     ]
 
 of_mapped : (bs : List Statement) (b : Statement) → Contains bs b → Contains (map OfStatement bs) (OfStatement b)
 of_mapped [] b c = absurd (nowhere b c)
 of_mapped (d ∷ ds) b c =
-    elim (first_or_later d ds b c) [
-      | inl is ↦ subst (λ (b : Statement). Contains (map OfStatement (d ∷ ds)) (OfStatement b)) is (first (OfStatement d) (map OfStatement ds))
-      | inr l ↦ later (OfStatement d) (map OfStatement ds) (OfStatement b) (of_mapped ds b l)
+    elim (Contains-cases d ds b c) [
+      | inl is ↦ subst (λ (b : Statement). Contains (map OfStatement (d ∷ ds)) (OfStatement b)) is (Contains-first (OfStatement d) (map OfStatement ds))
+      | inr l ↦ Contains-later (OfStatement d) (map OfStatement ds) (OfStatement b) (of_mapped ds b l)
     ]
 
 module _ (w : World) (s : Scope) where
@@ -87,32 +87,32 @@ module _ (w : World) (s : Scope) where
   mutual
     well_within : (a : Statement) → IsWellThroughoutByCases w s a → (b : Statement) → Contains (statements_of a) b → At b
     well_within (Block mark ss) h b c =
-        elim (first_or_later (Block mark ss) (all_statements ss) b c) [
+        elim (Contains-cases (Block mark ss) (all_statements ss) b c) [
           | inl is ↦ subst At is (record { types = []; have_types = tt; holds = tt })
           | inr l ↦ all_within ss h b l
         ]
     well_within (If mark e a d) h b c =
-        elim (first_or_later (If mark e a d) (statements_of a ++ statements_of d) b c) [
+        elim (Contains-cases (If mark e a d) (statements_of a ++ statements_of d) b c) [
           | inl is ↦ subst At is (record { types = ty.Boolean ∷ []; have_types = (h.0, tt); holds = (refl, tt) })
           | inr l ↦ elim (Contains-append_cases (statements_of a) (statements_of d) b l) [ inl x ↦ well_within a h.1 b x | inr y ↦ well_within d h.2 b y ]
         ]
     well_within (While mark e a) h b c =
-        elim (first_or_later (While mark e a) (statements_of a) b c) [
+        elim (Contains-cases (While mark e a) (statements_of a) b c) [
           | inl is ↦ subst At is (record { types = ty.Boolean ∷ []; have_types = (h.0, tt); holds = (refl, tt) })
           | inr l ↦ well_within a h.1 b l
         ]
     well_within (Print mark e) h b c =
-        elim (first_or_later (Print mark e) [] b c) [
+        elim (Contains-cases (Print mark e) [] b c) [
           | inl is ↦ subst At is (record { types = ty.Int ∷ []; have_types = (h, tt); holds = (refl, tt) })
           | inr l ↦ absurd (nowhere b l)
         ]
     well_within (Assign mark x x_mark e) h b c =
-        elim (first_or_later (Assign mark x x_mark e) [] b c) [
+        elim (Contains-cases (Assign mark x x_mark e) [] b c) [
           | inl is ↦ subst At is (record { types = h.1 ∷ h.0 ∷ []; have_types = (h.2, (h.3, tt)); holds = (h.4, tt) })
           | inr l ↦ absurd (nowhere b l)
         ]
     well_within (Store mark x x_mark i e) h b c =
-        elim (first_or_later (Store mark x x_mark i e) [] b c) [
+        elim (Contains-cases (Store mark x x_mark i e) [] b c) [
           | inl is ↦ subst At is (record { types = ty.IntArray ∷ ty.Int ∷ ty.Int ∷ []; have_types = (h.0, (h.1, (h.2, tt))); holds = (refl, (refl, (refl, tt))) })
           | inr l ↦ absurd (nowhere b l)
         ]
@@ -151,21 +151,21 @@ module _ (w : World) (s : Scope) where
 
   mutual
     within_well : (a : Statement) → IsWellThroughout w s a → IsWellThroughoutByCases w s a
-    within_well (Block mark ss) h = within_all ss (λ b c. h b (later (Block mark ss) (all_statements ss) b c))
+    within_well (Block mark ss) h = within_all ss (λ b c. h b (Contains-later (Block mark ss) (all_statements ss) b c))
     within_well (If mark e a b) h =
-        let own = h (If mark e a b) (first (If mark e a b) (statements_of a ++ statements_of b)) in (
+        let own = h (If mark e a b) (Contains-first (If mark e a b) (statements_of a ++ statements_of b)) in (
           if_by mark e a b own.types own.have_types own.holds,
-          within_well a (λ d c. h d (later (If mark e a b) (statements_of a ++ statements_of b) d (Contains-append_left (statements_of a) (statements_of b) d c))),
-          within_well b (λ d c. h d (later (If mark e a b) (statements_of a ++ statements_of b) d (Contains-append_right (statements_of a) (statements_of b) d c))),
+          within_well a (λ d c. h d (Contains-later (If mark e a b) (statements_of a ++ statements_of b) d (Contains-append_left (statements_of a) (statements_of b) d c))),
+          within_well b (λ d c. h d (Contains-later (If mark e a b) (statements_of a ++ statements_of b) d (Contains-append_right (statements_of a) (statements_of b) d c))),
         )
     within_well (While mark e a) h =
-        let own = h (While mark e a) (first (While mark e a) (statements_of a)) in
-        (while_by mark e a own.types own.have_types own.holds, within_well a (λ d c. h d (later (While mark e a) (statements_of a) d c)))
-    within_well (Print mark e) h = let own = h (Print mark e) (first (Print mark e) []) in print_by mark e own.types own.have_types own.holds
+        let own = h (While mark e a) (Contains-first (While mark e a) (statements_of a)) in
+        (while_by mark e a own.types own.have_types own.holds, within_well a (λ d c. h d (Contains-later (While mark e a) (statements_of a) d c)))
+    within_well (Print mark e) h = let own = h (Print mark e) (Contains-first (Print mark e) []) in print_by mark e own.types own.have_types own.holds
     within_well (Assign mark x x_mark e) h =
-        let own = h (Assign mark x x_mark e) (first (Assign mark x x_mark e) []) in assign_by mark x x_mark e own.types own.have_types own.holds
+        let own = h (Assign mark x x_mark e) (Contains-first (Assign mark x x_mark e) []) in assign_by mark x x_mark e own.types own.have_types own.holds
     within_well (Store mark x x_mark i e) h =
-        let own = h (Store mark x x_mark i e) (first (Store mark x x_mark i e) []) in store_by mark x x_mark i e own.types own.have_types own.holds
+        let own = h (Store mark x x_mark i e) (Contains-first (Store mark x x_mark i e) []) in store_by mark x x_mark i e own.types own.have_types own.holds
 
     within_all : (ss : Statements) → ((b : Statement) → Contains (all_statements ss) b → At b) → AreWellThroughoutByCases w s ss
     within_all done h = tt
@@ -187,7 +187,7 @@ module _ (w : World) (s : Scope) where
   body_within bs mark wanted e h r p c =
       elim (Contains-append_cases (map OfStatement bs) (OfReturn mark wanted e ∷ []) p c) [
         | inl x ↦ let b = mapped_of bs p x in subst (IsWell w s) b.2 (h b.0 b.1)
-        | inr y ↦ elim (first_or_later (OfReturn mark wanted e) [] p y) [
+        | inr y ↦ elim (Contains-cases (OfReturn mark wanted e) [] p y) [
           | inl is ↦ subst (IsWell w s) is (record { types = r.0 ∷ []; have_types = (r.1, tt); holds = (r.2, tt) })
           | inr l ↦ absurd (nowhere p l)
         ]
@@ -200,7 +200,7 @@ module _ (w : World) (s : Scope) where
   within_method m h =
       let bs = all_statements m.body in
       let last = OfReturn m.return_mark m.returns m.returned in
-      let own = h last (Contains-append_right (map OfStatement bs) (last ∷ []) last (first last [])) in (
+      let own = h last (Contains-append_right (map OfStatement bs) (last ∷ []) last (Contains-first last [])) in (
         within_all m.body (λ b c. h (OfStatement b) (Contains-append_left (map OfStatement bs) (last ∷ []) (OfStatement b) (of_mapped bs b c))),
         return_by m.return_mark m.returns m.returned own.types own.have_types own.holds,
       )

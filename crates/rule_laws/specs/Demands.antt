@@ -74,8 +74,8 @@ IsInScope w s x = (t : Ty) × IsVariable w s x t
 abbrev pub IsInMethod : Scope → Type 0
 IsInMethod s = (c : Name) × (s.class ≡ Some c)
 
-abbrev pub IsClass : Ty → Type 0
-IsClass t = (c : Name) × (t ≡ ty.Class c)
+abbrev pub IsClassType : Ty → Type 0
+IsClassType t = (c : Name) × (t ≡ ty.Class c)
 
 -- the type is a class that has the method
 abbrev pub HasMethod : World → Ty → Name → Sig → Type 0
@@ -107,7 +107,7 @@ demands w s (OfExpression (Index mark a i)) (t ∷ u ∷ []) =
     (t ≡ ty.IntArray, E307) ∷ (u ≡ ty.Int, E308) ∷ []
 demands w s (OfExpression (Length mark a)) (t ∷ []) = (t ≡ ty.IntArray, E309) ∷ []
 demands w s (OfExpression (Call mark e m es)) (t ∷ ts) =
-    (IsClass t, E310)
+    (IsClassType t, E310)
     ∷ ((sig : Sig) × HasMethod w t m sig, E311)
     ∷ ((sig : Sig) × HasMethod w t m sig × (length ts ≡ length sig.formals), E312)
     ∷ ((sig : Sig) × HasMethod w t m sig × AreAccepted w ts sig.formals, E313) ∷ []

@@ -3,7 +3,7 @@
 use crate::made::trees_of;
 use mj_answer::Code;
 use mj_lexer::Name;
-use mj_phrases::{Asking, Mistake, Signature, Stop};
+use mj_phrases::{Asking, MethodSignature, Mistake, Stop};
 use mj_tree::{ClassTree, FileTree, MainTree, Ty};
 use mj_typing::{check_main, check_method};
 use std::alloc::{AllocError, Global};
@@ -16,7 +16,7 @@ struct Types {
     returns: Ty,
 }
 
-impl Signature for Types {
+impl MethodSignature for Types {
     ghost sig = { λ types. record { formals = types.formals.items; returns = types.returns } };
 
     fn formals(&self) -> &[Ty] {

@@ -5,22 +5,22 @@ use Rattle.item_ids.specs.declared.kind.Kind.TheVariants.{Source}
 use Rattle.result_bytes.specs.declared.value.Value.{Value}
 use Rattle.result_bytes.specs.Values.{canon, kind_of_value}
 use Rattle.recorder.specs.Backed.{ReadValue}
-use Rattle.recorder.specs.Recording.{Recording, IsUnread, Answers, Refuses, fault_of}
+use Rattle.recorder.specs.Recording.{Recording, IsUnread, Answers, RefusesRead, fault_of}
 use Rattle.recorder.specs.Programs.{Goes, GivesUp as StepGivesUp, Ask as AskStep}
 use Rattle.recorder.specs.declared.reader.ReadFault.{ReadFault}
 use Rattle.recorder.specs.declared.reader.ReadFault.TheVariants as faults
 use Rattle.recorder.specs.declared.runner.RunFault.TheVariants.{Read}
-use Rattle.answer_fixtures.specs.declared.keys.Asked.{Asked}
+use Rattle.answer_fixtures.specs.declared.keys.KeyParts.{KeyParts}
 use Rattle.answer_fixtures.specs.Telling.{IsKeyOf}
 use Rattle.run_fixtures.specs.declared.reads.Given.{Given}
-use Rattle.run_fixtures.specs.declared.counting.Counting.{Counting}
+use Rattle.run_fixtures.specs.declared.counting.CountingReader.{CountingReader}
 use Rattle.run_fixtures.specs.declared.counting.Ask.{Ask}
 use Rattle.run_fixtures.specs.declared.counting.Ask.TheVariants.{Again, Answered, NotHeld, GivesUp}
 use Rattle.run_fixtures.specs.Reading.{AreReadsOf}
 
 -- a recorder over a list whose reader counts what it is asked
 abbrev pub Counted : Type 0
-Counted = Recording Counting
+Counted = Recording CountingReader
 
 -- why the list may refuse the key: memory ran out, or it has no answer
 abbrev pub MayRefuse : List ReadValue → Key → ReadFault → Type 0
@@ -45,11 +45,11 @@ pub record IsAnsweredTwice (key : Key) (old new : Counted) : Type 0 where
 abbrev pub BecomesOf : Ask → Key → Counted → Counted → Type 0
 BecomesOf (Again asked) key old new = IsAnsweredTwice key old new
 BecomesOf (Answered asked) key old new = IsAnswered key old new
-BecomesOf (NotHeld asked) key old new = Refuses (MayRefuse new.inner.list) old key faults.NotHeld new
+BecomesOf (NotHeld asked) key old new = RefusesRead (MayRefuse new.inner.list) old key faults.NotHeld new
 BecomesOf (GivesUp asked) key old new =
     StepGivesUp (AskStep key) old (Read faults.NotHeld) new × (fault_of new ≡ Some faults.NotHeld)
 
-abbrev pub asked_by : Ask → Asked
+abbrev pub asked_by : Ask → KeyParts
 asked_by (Again asked) = asked
 asked_by (Answered asked) = asked
 asked_by (NotHeld asked) = asked
@@ -78,7 +78,7 @@ pub record IsAfter (answers : List Given) (asks : List Ask) (end : Counted) : Ty
   pub asked : AllBecome asks (fresh list) end
 
 -- the list has an answer for the key that is given
-pub record HasAnswer (list : List ReadValue) (asked : Asked) : Type 0 where
+pub record HasAnswer (list : List ReadValue) (asked : KeyParts) : Type 0 where
   pub key : Key
   pub of_key : IsKeyOf asked key
   pub value : Value

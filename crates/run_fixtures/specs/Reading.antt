@@ -14,10 +14,10 @@ use Rattle.recorder.specs.declared.runner.RunFault.{RunFault}
 use Rattle.recorder.specs.declared.runner.RunFault.TheVariants.{Read}
 use Rattle.runner_fixtures.specs.Meaning.{sample_mean}
 use Rattle.runner_fixtures.specs.Programs.{sample_reads}
-use Rattle.answer_fixtures.specs.declared.keys.Asked.{Asked}
-use Rattle.answer_fixtures.specs.Telling.{Tell, IsKeyOf, IsTold}
+use Rattle.answer_fixtures.specs.declared.keys.KeyParts.{KeyParts}
+use Rattle.answer_fixtures.specs.Telling.{Tell, IsKeyOf, IsSpelledValue}
 use Rattle.run_fixtures.specs.declared.reads.Given.{Given}
-use Rattle.run_fixtures.specs.declared.refusals.Kept.{Kept}
+use Rattle.run_fixtures.specs.declared.refusals.KeptReads.{KeptReads}
 
 -- ---- reads
 
@@ -31,8 +31,8 @@ abbrev pub AreReadsOf : List Given → List ReadValue → Type 0
 AreReadsOf given reads = AllZip IsReadOf given reads
 
 -- the list has the read that is given
-abbrev pub IsFound : Given → List ReadValue → Type 0
-IsFound given list = (read : ReadValue) × Contains list read × IsReadOf given read
+abbrev pub HasRead : Given → List ReadValue → Type 0
+HasRead given list = (read : ReadValue) × Contains list read × IsReadOf given read
 
 -- the list has no read of the key
 abbrev pub LacksKey : Given → List ReadValue → Type 0
@@ -46,17 +46,17 @@ AnswersOtherwise given list =
 
 -- the answer to whether the list has the answer that is given for its key
 pub record Holds (given : Given) (list : List ReadValue) (answer : Bool) : Type 0 where
-  pub found : IsTrue answer → IsFound given list
+  pub found : IsTrue answer → HasRead given list
   pub missing : answer ≡ false → LacksKey given list ⊎ AnswersOtherwise given list
 
 -- the key is the one that is given, or both are missing
-abbrev pub IsRefusedKey : Option Asked → Option Key → Type 0
+abbrev pub IsRefusedKey : Option KeyParts → Option Key → Type 0
 IsRefusedKey (Some asked) (Some key) = IsKeyOf asked key
 IsRefusedKey None None = Unit {0}
 IsRefusedKey _ _ = ⊥
 
 -- of reads just these are kept, and of a refused one this fault and this key
-pub record IsKept (kept : Kept) {D : Type 0} (r : Recording D) : Type 0 where
+pub record KeepsJust (kept : KeptReads) {D : Type 0} (r : Recording D) : Type 0 where
   pub fault : fault_of r ≡ kept.fault
   pub refused : IsRefusedKey kept.refused (key_of r)
   pub reads : AreReadsOf kept.reads.now r.told
@@ -67,16 +67,16 @@ pub record IsKept (kept : Kept) {D : Type 0} (r : Recording D) : Type 0 where
 pub record AreSame (one other : Given) (answer : Bool) : Type 0 where
   pub first : Value
   pub second : Value
-  pub of_one : IsTold one.0.0 one.1.now first
-  pub of_other : IsTold other.0.0 other.1.now second
+  pub of_one : IsSpelledValue one.0.0 one.1.now first
+  pub of_other : IsSpelledValue other.0.0 other.1.now second
   pub told : IsTrue answer ↔ ((first ≡ second) × (print_of first ≡ print_of second))
 
 -- the answer to whether neither the results that are given nor their fingerprints are the same
-pub record AreApart (one other : Given) (answer : Bool) : Type 0 where
+pub record AreToldApart (one other : Given) (answer : Bool) : Type 0 where
   pub first : Value
   pub second : Value
-  pub of_one : IsTold one.0.0 one.1.now first
-  pub of_other : IsTold other.0.0 other.1.now second
+  pub of_one : IsSpelledValue one.0.0 one.1.now first
+  pub of_other : IsSpelledValue other.0.0 other.1.now second
   pub told : IsTrue answer ↔ ((first ≢ second) × (print_of first ≢ print_of second))
 
 -- a program ended with the value that the digits spell
@@ -85,16 +85,16 @@ EndsWith digits (Ok v) = Tell digits (canon v)
 EndsWith digits (Err e) = ⊥
 
 -- a program ended with the value that the digits spell, after the reads that are given
-pub record ComesTo (digits : List ℕ) (given : List Given) (ending : Result Value RunFault)
+pub record EndsWithValue (digits : List ℕ) (given : List Given) (ending : Result Value RunFault)
     (told : List ReadValue) : Type 0 where
   pub value : EndsWith digits ending
   pub reads : AreReadsOf given told
 
 -- a program gave up as an answer isn't held, and just this is kept
-pub record Wants (kept : Kept) (ending : Result Value RunFault) {D : Type 0} (r : Recording D)
+pub record Wants (kept : KeptReads) (ending : Result Value RunFault) {D : Type 0} (r : Recording D)
     : Type 0 where
   pub fault : ending ≡ Err (Read NotHeld)
-  pub keeps : IsKept kept r
+  pub keeps : KeepsJust kept r
 
 -- ---- runs
 
@@ -105,7 +105,7 @@ pub record IsOutcomeOf (run : Given) (given : List Given) (o : OutcomeValue) : T
   pub reads : AreReadsOf given o.told
 
 -- the answer to whether an outcome of the sample runner is the one that is given
-pub record IsGiven (run : Given) (given : List Given) (answer : Bool) : Type 0 where
+pub record IsGivenOutcome (run : Given) (given : List Given) (answer : Bool) : Type 0 where
   pub outcome : OutcomeValue
   pub of_runner : IsOutcome sample_mean sample_reads outcome
   pub of_key : IsKeyOf run.0 outcome.key
@@ -114,26 +114,26 @@ pub record IsGiven (run : Given) (given : List Given) (answer : Bool) : Type 0 w
 -- ---- runs whose reads are refused
 
 -- just the key that is given is logged
-abbrev pub IsLoggedAs : List Key → Asked → Type 0
+abbrev pub IsLoggedAs : List Key → KeyParts → Type 0
 IsLoggedAs (key ∷ []) asked = IsKeyOf asked key
 IsLoggedAs _ asked = ⊥
 
 -- a run of the key that is given has read this far, each key where the sample runner reads it
-pub record IsHalted (asked : Asked) {D : Type 0} (r : Recording D) : Type 0 where
+pub record IsHalted (asked : KeyParts) {D : Type 0} (r : Recording D) : Type 0 where
   pub key : Key
   pub of_key : IsKeyOf asked key
   pub in_order : AsksInOrder sample_mean sample_reads key r.told
   pub next : IsNextRefused sample_mean sample_reads key r
 
 -- a run of the key that is given is refused with this fault, and its recorder keeps just this
-pub record IsLeft (asked : Asked) (fault : ReadFault) (kept : Kept) {D : Type 0} (r : Recording D)
+pub record IsLeft (asked : KeyParts) (fault : ReadFault) (kept : KeptReads) {D : Type 0} (r : Recording D)
     : Type 0 where
   pub halted : IsHalted asked r
   pub fault_told : fault_of r ≡ Some fault
-  pub keeps : IsKept kept r
+  pub keeps : KeepsJust kept r
 
 -- its first read is refused with this fault, and its recorder keeps that and this key
-pub record IsLeftUnread (asked : Asked) (fault : ReadFault) (refused : Option Asked) {D : Type 0}
+pub record IsLeftUnread (asked : KeyParts) (fault : ReadFault) (refused : Option KeyParts) {D : Type 0}
     (r : Recording D) : Type 0 where
   pub halted : IsHalted asked r
   pub fault_told : fault_of r ≡ Some fault

@@ -1,10 +1,10 @@
 //! Lists of answers.
 ghost use Rattle.std.specs.Prelude.{◌≡◌, ◌↔◌, List, [], ◌∷◌, ◌++◌, IsTrue, IfOk, OnOk};
 ghost use Rattle.fingerprint.specs.Prints.{print_of};
-ghost use Rattle.answer_fixtures.specs.Telling.{IsKeyOf, IsTold};
+ghost use Rattle.answer_fixtures.specs.Telling.{IsKeyOf, IsSpelledValue};
 ghost use Rattle.run_fixtures.specs.declared.reads.Given.{Given as SpecGiven};
 ghost use Rattle.recorder.specs.Backed.{ReadValue};
-ghost use Rattle.run_fixtures.specs.Reading.{AreReadsOf, Holds, AreSame, AreApart};
+ghost use Rattle.run_fixtures.specs.Reading.{AreReadsOf, Holds, AreSame, AreToldApart};
 
 use crate::reads::{Given, is_read};
 use answer_fixtures::{Unfit, key_of, sealed_of};
@@ -84,7 +84,7 @@ pub fn are_same(alloc: Global, one: Given, other: Given) -> Result<bool, Unfit>
 
 /// Whether neither the results nor the prints of two answers are the same.
 pub fn are_apart(alloc: Global, one: Given, other: Given) -> Result<bool, Unfit>
-    ensures { IfOk result (AreApart one.entry other.entry) }
+    ensures { IfOk result (AreToldApart one.entry other.entry) }
 {
     let one = sealed_of(alloc, one.0.0, one.1)?;
     let other = sealed_of(alloc, other.0.0, other.1)?;

@@ -3,17 +3,17 @@ ghost use Rattle.std.specs.Prelude.{◌≡◌, ◌↔◌, List, [], ◌∷◌, �
 ghost use Rattle.std.specs.Arc.{arc_value};
 ghost use Rattle.result_bytes.specs.declared.value.Value.{Value as SpecValue};
 ghost use Rattle.result_bytes.specs.Values.{canon};
-ghost use Rattle.recorder.specs.Recording.{Answers, Refuses, fault_of};
+ghost use Rattle.recorder.specs.Recording.{Answers, RefusesRead, fault_of};
 ghost use Rattle.recorder.specs.Programs.{Goes, GivesUp as StepGivesUp, Ask as AskStep};
 ghost use Rattle.recorder.specs.Backed.{ReadValue};
 ghost use Rattle.recorder.specs.Runs.{IsReadFault};
-ghost use Rattle.run_fixtures.specs.Reading.{AreReadsOf, IsKept};
+ghost use Rattle.run_fixtures.specs.Reading.{AreReadsOf, KeepsJust};
 ghost use Rattle.run_fixtures.specs.Asking.{Counted, MayRefuse, IsAnswered, IsAnsweredTwice, BecomesOf, Becomes, AllBecome, IsAfter, HasAnswer, fresh, asked_by};
 
 use crate::answers::list_of;
 use crate::reads::Given;
-use crate::refusals::{Kept, keeps};
-use answer_fixtures::{Asked, Unfit, key_of};
+use crate::refusals::{KeptReads, keeps};
+use answer_fixtures::{KeyParts, Unfit, key_of};
 use fingerprint::Sealed;
 use item_ids::{Key, Kind};
 use recorder::{ReadFault, Reader, Recorder, RunFault, ask_key};
@@ -23,12 +23,12 @@ use std::sync::Arc;
 
 /// A reader over a list, which counts what it was asked.
 #[derive(Drop)]
-struct Counting {
+struct CountingReader {
     list: AnswerList,
     count: u64,
 }
 
-impl Reader for Counting {
+impl Reader for CountingReader {
     ghost use Rattle.std.specs.Prelude.{◌≡◌, ◌⊎◌, Contains, refl};
     ghost use Rattle.std.proofs.Common.{◌∙◌, sym, subst};
     ghost use Rattle.recorder.specs.Recording.{IsUnread};
@@ -57,17 +57,17 @@ impl Reader for Counting {
 #[derive(Clone, Copy, Debug)]
 pub enum Ask<'a> {
     /// It has an answer, a source; a step of a program is given it again.
-    Again(Asked<'a>),
+    Again(KeyParts<'a>),
     /// It has an answer.
-    Answered(Asked<'a>),
+    Answered(KeyParts<'a>),
     /// No answer is held.
-    NotHeld(Asked<'a>),
+    NotHeld(KeyParts<'a>),
     /// A step of a program gives up, because no answer is held.
-    GivesUp(Asked<'a>),
+    GivesUp(KeyParts<'a>),
 }
 
 /// Whether a step that asks the key is given this answer.
-fn is_given_again(recorder: &mut Recorder<Counting>, key: &Key, answer: &Arc<Sealed>) -> bool
+fn is_given_again(recorder: &mut Recorder<CountingReader>, key: &Key, answer: &Arc<Sealed>) -> bool
     ensures { IsTrue result → (again : SpecValue)
         × Goes (AskStep key.now) recorder.old again recorder.new
         × (canon again ≡ canon (arc_value answer.now)) }
@@ -79,7 +79,7 @@ fn is_given_again(recorder: &mut Recorder<Counting>, key: &Key, answer: &Arc<Sea
 }
 
 /// Whether the key has an answer, a source, which is given again.
-fn is_answered_twice(recorder: &mut Recorder<Counting>, key: &Key) -> bool
+fn is_answered_twice(recorder: &mut Recorder<CountingReader>, key: &Key) -> bool
     ensures { IsTrue result → IsAnsweredTwice key.now recorder.old recorder.new }
 {
     match recorder.read(key) {
@@ -91,9 +91,9 @@ fn is_answered_twice(recorder: &mut Recorder<Counting>, key: &Key) -> bool
 }
 
 /// Why the key has no answer.
-fn read_fault(recorder: &mut Recorder<Counting>, key: &Key) -> Option<ReadFault>
+fn read_fault(recorder: &mut Recorder<CountingReader>, key: &Key) -> Option<ReadFault>
     ensures { MatchOption result (IsAnswered key.now recorder.old recorder.new)
-        (λ fault. Refuses (MayRefuse recorder.new.inner.list) recorder.old key.now fault
+        (λ fault. RefusesRead (MayRefuse recorder.new.inner.list) recorder.old key.now fault
         recorder.new) }
 {
     match recorder.read(key) {
@@ -103,7 +103,7 @@ fn read_fault(recorder: &mut Recorder<Counting>, key: &Key) -> Option<ReadFault>
 }
 
 /// Why a step that asks the key gives up.
-fn step_fault(recorder: &mut Recorder<Counting>, key: &Key) -> Option<RunFault>
+fn step_fault(recorder: &mut Recorder<CountingReader>, key: &Key) -> Option<RunFault>
     ensures { IfSome result (λ fault.
         StepGivesUp (AskStep key.now) recorder.old fault recorder.new
         × IsReadFault recorder.new fault) }
@@ -115,7 +115,7 @@ fn step_fault(recorder: &mut Recorder<Counting>, key: &Key) -> Option<RunFault>
 }
 
 /// The key that is asked for.
-fn asked_by(ask: Ask) -> Asked
+fn asked_by(ask: Ask) -> KeyParts
     ensures { result ≡ asked_by ask.entry }
 {
     match ask {
@@ -126,7 +126,7 @@ fn asked_by(ask: Ask) -> Asked
 }
 
 /// Whether the key has this outcome.
-fn becomes_of(recorder: &mut Recorder<Counting>, key: &Key, ask: Ask) -> bool
+fn becomes_of(recorder: &mut Recorder<CountingReader>, key: &Key, ask: Ask) -> bool
     ensures { IsTrue result → BecomesOf ask.entry key.now recorder.old recorder.new }
 {
     match ask {
@@ -138,7 +138,7 @@ fn becomes_of(recorder: &mut Recorder<Counting>, key: &Key, ask: Ask) -> bool
 }
 
 /// Whether the key that is given has its outcome.
-fn becomes(alloc: Global, recorder: &mut Recorder<Counting>, ask: Ask) -> Result<bool, Unfit>
+fn becomes(alloc: Global, recorder: &mut Recorder<CountingReader>, ask: Ask) -> Result<bool, Unfit>
     ensures { IfOk result (λ b. IsTrue b → Becomes ask.entry recorder.old recorder.new) }
 {
     let key = key_of(alloc, asked_by(ask))?;
@@ -146,7 +146,11 @@ fn becomes(alloc: Global, recorder: &mut Recorder<Counting>, ask: Ask) -> Result
 }
 
 /// Whether the keys have these outcomes, one after the other.
-fn all_become(alloc: Global, recorder: &mut Recorder<Counting>, asks: &[Ask]) -> Result<bool, Unfit>
+fn all_become(
+    alloc: Global,
+    recorder: &mut Recorder<CountingReader>,
+    asks: &[Ask],
+) -> Result<bool, Unfit>
     ensures { IfOk result (λ b. IsTrue b → AllBecome asks.now recorder.old recorder.new) }
 {
     for ask in asks {
@@ -158,16 +162,16 @@ fn all_become(alloc: Global, recorder: &mut Recorder<Counting>, asks: &[Ask]) ->
 }
 
 /// A recorder over the list of these answers.
-fn recorder_of(alloc: Global, answers: &[Given]) -> Result<Recorder<Counting>, Unfit>
+fn recorder_of(alloc: Global, answers: &[Given]) -> Result<Recorder<CountingReader>, Unfit>
     ensures { IfOk result (λ r. (list : List ReadValue) × AreReadsOf answers.now list
         × (r ≡ fresh list)) }
 {
     let list = list_of(alloc, answers)?;
-    Ok(Recorder::new(alloc, Counting { list, count: 0 }))
+    Ok(Recorder::new(alloc, CountingReader { list, count: 0 }))
 }
 
 /// The reader of a recorder that was asked for these keys.
-fn reader_after(alloc: Global, answers: &[Given], asks: &[Ask]) -> Result<Counting, Unfit>
+fn reader_after(alloc: Global, answers: &[Given], asks: &[Ask]) -> Result<CountingReader, Unfit>
     ensures { IfOk result (λ reader. (end : Counted) × IsAfter answers.now asks.now end
         × (reader ≡ end.inner)) }
 {
@@ -183,12 +187,12 @@ fn reader_after(alloc: Global, answers: &[Given], asks: &[Ask]) -> Result<Counti
 /// Whether the keys have these outcomes, one after the other, and the recorder then keeps just this.
 fn become_kept(
     alloc: Global,
-    recorder: &mut Recorder<Counting>,
+    recorder: &mut Recorder<CountingReader>,
     asks: &[Ask],
-    kept: Kept,
+    kept: KeptReads,
 ) -> Result<bool, Unfit>
     ensures { IfOk result (λ b. IsTrue b → AllBecome asks.now recorder.old recorder.new
-        × IsKept kept.entry recorder.new) }
+        × KeepsJust kept.entry recorder.new) }
 {
     match all_become(alloc, recorder, asks) {
         Ok(true) => keeps(alloc, recorder, kept),
@@ -201,10 +205,10 @@ pub fn keeps_after(
     alloc: Global,
     answers: &[Given],
     asks: &[Ask],
-    kept: Kept,
+    kept: KeptReads,
 ) -> Result<bool, Unfit>
     ensures { IfOk result (λ b. IsTrue b → (end : Counted) × IsAfter answers.now asks.now end
-        × IsKept kept.entry end) }
+        × KeepsJust kept.entry end) }
 {
     let mut recorder = recorder_of(alloc, answers)?;
     become_kept(alloc, &mut recorder, asks, kept)
@@ -223,7 +227,7 @@ pub fn answers_after(
     alloc: Global,
     answers: &[Given],
     asks: &[Ask],
-    asked: Asked,
+    asked: KeyParts,
 ) -> Result<bool, Unfit>
     ensures { IfOk result (λ b. IsTrue b → (end : Counted) × IsAfter answers.now asks.now end
         × HasAnswer end.inner.list asked.entry) }
@@ -233,7 +237,7 @@ pub fn answers_after(
 }
 
 /// Whether the reader has an answer for the key.
-fn is_answered(alloc: Global, reader: &mut Counting, asked: Asked) -> Result<bool, Unfit>
+fn is_answered(alloc: Global, reader: &mut CountingReader, asked: KeyParts) -> Result<bool, Unfit>
     ensures { IfOk result (λ b. IsTrue b → HasAnswer reader.old.list asked.entry) }
 {
     let key = key_of(alloc, asked)?;

@@ -1,6 +1,6 @@
 //! A reader that is lent to a run.
 ghost use Rattle.std.specs.Prelude.{◌≡◌, ◌<◌, IfOk};
-ghost use Rattle.recorder.specs.Backed.{rank as rank_of};
+ghost use Rattle.item_ids.specs.Inputs.{rank as rank_of};
 ghost use Rattle.recorder.specs.Runs.{IsOutcome};
 
 use answer_fixtures::Unfit;

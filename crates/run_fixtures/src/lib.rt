@@ -12,6 +12,6 @@ mod runs;
 pub use answers::{are_apart, are_same, holds, list_of};
 pub use counting::{Ask, answers_after, count_after, keeps_after};
 pub use reads::{Given, are_reads, has_read_copy, is_copy_of};
-pub use refusals::{Kept, keeps, leaves, leaves_refused};
+pub use refusals::{KeptReads, keeps, leaves, leaves_refused};
 pub use results::{comes_to, wants};
 pub use runs::{gives, gives_over_lent, is_log_empty, outcome_of, tells_profile};

@@ -3,14 +3,14 @@ ghost use Rattle.std.specs.Prelude.{◌≡◌, ◌↔◌, IsTrue, IfOk};
 ghost use Rattle.answer_fixtures.specs.Telling.{IsKeyOf, AreAlike};
 ghost use Rattle.run_fixtures.specs.Reading.{IsReadOf, AreReadsOf};
 
-use answer_fixtures::{Asked, Unfit, is_key, is_spelled, key_of, sealed_of};
+use answer_fixtures::{KeyParts, Unfit, is_key, is_spelled, key_of, sealed_of};
 use item_ids::keys_in_order;
 use recorder::Read;
 use std::alloc::Global;
 
 /// A key, and the canonical bytes of its answer in hexadecimal digits.
 #[derive(Clone, Copy, Debug)]
-pub struct Given<'a>(pub Asked<'a>, pub &'a str);
+pub struct Given<'a>(pub KeyParts<'a>, pub &'a str);
 
 /// Whether just this key was read, and so answered.
 pub fn is_read(alloc: Global, read: &Read, given: Given) -> Result<bool, Unfit>
@@ -53,7 +53,7 @@ fn copy_of(alloc: Global, given: Given) -> Result<Read, Unfit>
 }
 
 /// Whether the read is of the key.
-fn is_of(alloc: Global, read: &Read, asked: Asked) -> Result<bool, Unfit>
+fn is_of(alloc: Global, read: &Read, asked: KeyParts) -> Result<bool, Unfit>
     ensures { IfOk result (λ b. IsTrue b ↔ IsKeyOf asked.entry read.now.key) }
 {
     // Keys are equal where their kinds, classes and members are.
@@ -63,7 +63,7 @@ fn is_of(alloc: Global, read: &Read, asked: Asked) -> Result<bool, Unfit>
 }
 
 /// Whether a copy of the read is of this key.
-pub fn is_copy_of(alloc: Global, given: Given, asked: Asked) -> Result<bool, Unfit>
+pub fn is_copy_of(alloc: Global, given: Given, asked: KeyParts) -> Result<bool, Unfit>
     ensures { IfOk result (λ b. IsTrue b ↔ AreAlike given.entry.0 asked.entry) }
 {
     let copy = copy_of(alloc, given)?;

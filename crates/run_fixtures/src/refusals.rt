@@ -1,16 +1,17 @@
 //! What is left of runs whose reads are refused.
 ghost use Rattle.std.specs.Prelude.{◌≡◌, ◌↔◌, ◌<◌, List, [], Some, None, IsTrue, IfOk, option_copied};
-ghost use Rattle.recorder.specs.Backed.{rank as rank_of, ReadValue};
+ghost use Rattle.item_ids.specs.Inputs.{rank as rank_of};
+ghost use Rattle.recorder.specs.Backed.{ReadValue};
 ghost use Rattle.recorder.specs.Recording.{Recording, fault_of};
 ghost use Rattle.recorder.specs.declared.reader.ReadFault.TheVariants.{NotHeld};
 ghost use Rattle.runner_fixtures.specs.declared.refusing.Refusing.{Refusing as SpecRefusing};
 ghost use Rattle.answer_fixtures.specs.Telling.{IsKeyOf};
-ghost use Rattle.run_fixtures.specs.Reading.{AreReadsOf, IsRefusedKey, IsKept, IsLoggedAs, IsHalted, IsLeft, IsLeftUnread};
+ghost use Rattle.run_fixtures.specs.Reading.{AreReadsOf, IsRefusedKey, KeepsJust, IsLoggedAs, IsHalted, IsLeft, IsLeftUnread};
 
 use crate::answers::list_of;
 use crate::reads::{Given, are_reads};
 use crate::runs::query_of;
-use answer_fixtures::{Asked, Unfit, is_key};
+use answer_fixtures::{KeyParts, Unfit, is_key};
 use item_ids::Key;
 use profiles::Profile;
 use recorder::{ReadFault, Reader, Recorder, RunFault, record};
@@ -19,14 +20,14 @@ use std::alloc::Global;
 
 /// What a recorder keeps: the reads in order, the fault, and the key that was refused, if any.
 #[derive(Clone, Copy, Debug)]
-pub struct Kept<'a> {
+pub struct KeptReads<'a> {
     pub reads: &'a [Given<'a>],
     pub fault: Option<ReadFault>,
-    pub refused: Option<Asked<'a>>,
+    pub refused: Option<KeyParts<'a>>,
 }
 
 /// Whether this is the key, or both are missing.
-fn is_refused(key: Option<&Key>, refused: Option<Asked>) -> bool
+fn is_refused(key: Option<&Key>, refused: Option<KeyParts>) -> bool
     ensures { IsTrue result ↔ IsRefusedKey refused.entry (option_copied key.entry) }
 {
     match (key, refused) {
@@ -37,8 +38,12 @@ fn is_refused(key: Option<&Key>, refused: Option<Asked>) -> bool
 }
 
 /// Whether the recorder keeps just this.
-pub fn keeps<D: Reader>(alloc: Global, recorder: &Recorder<D>, kept: Kept) -> Result<bool, Unfit>
-    ensures { IfOk result (λ b. IsTrue b ↔ IsKept kept.entry recorder.now) }
+pub fn keeps<D: Reader>(
+    alloc: Global,
+    recorder: &Recorder<D>,
+    kept: KeptReads,
+) -> Result<bool, Unfit>
+    ensures { IfOk result (λ b. IsTrue b ↔ KeepsJust kept.entry recorder.now) }
 {
     Ok(
         recorder.fault() == kept.fault
@@ -48,7 +53,7 @@ pub fn keeps<D: Reader>(alloc: Global, recorder: &Recorder<D>, kept: Kept) -> Re
 }
 
 /// Whether just this one key is logged.
-fn is_logged(log: &[Key], asked: Asked) -> bool
+fn is_logged(log: &[Key], asked: KeyParts) -> bool
     ensures { IsTrue result ↔ IsLoggedAs log.now asked.entry }
 {
     match log {
@@ -62,7 +67,7 @@ fn is_ended<D: Reader>(
     alloc: Global,
     key: &Key,
     recorder: &mut Recorder<D>,
-    asked: Asked,
+    asked: KeyParts,
     fault: ReadFault,
 ) -> bool
     requires no_input { 0 < rank_of key.now }
@@ -83,9 +88,9 @@ fn is_left<D: Reader>(
     alloc: Global,
     key: &Key,
     recorder: &mut Recorder<D>,
-    asked: Asked,
+    asked: KeyParts,
     fault: ReadFault,
-    kept: Kept,
+    kept: KeptReads,
 ) -> Result<bool, Unfit>
     requires no_input { 0 < rank_of key.now }
     requires unread { recorder.old.told ≡ [] }
@@ -106,9 +111,9 @@ fn leaves_over<D: Reader + Drop>(
     alloc: Global,
     key: &Key,
     reader: D,
-    asked: Asked,
+    asked: KeyParts,
     fault: ReadFault,
-    kept: Kept,
+    kept: KeptReads,
 ) -> Result<bool, Unfit>
     requires no_input { 0 < rank_of key.now }
     requires told { IsKeyOf asked key.now }
@@ -121,7 +126,7 @@ fn leaves_over<D: Reader + Drop>(
 
 /// Whether the key's run over the answers that are kept wants an answer that isn't held and is logged, and the recorder
 /// keeps just this.
-fn leaves_by(alloc: Global, key: &Key, asked: Asked, kept: Kept) -> Result<bool, Unfit>
+fn leaves_by(alloc: Global, key: &Key, asked: KeyParts, kept: KeptReads) -> Result<bool, Unfit>
     requires no_input { 0 < rank_of key.now }
     requires told { IsKeyOf asked key.now }
     ensures { IfOk result (λ b. IsTrue b → (r : Recording (List ReadValue))
@@ -134,7 +139,7 @@ fn leaves_by(alloc: Global, key: &Key, asked: Asked, kept: Kept) -> Result<bool,
 
 /// Whether a run over the answers that are kept wants an answer that isn't held and is logged, and the recorder keeps
 /// just this.
-pub fn leaves(alloc: Global, asked: Asked, kept: Kept) -> Result<bool, Unfit>
+pub fn leaves(alloc: Global, asked: KeyParts, kept: KeptReads) -> Result<bool, Unfit>
     ensures { IfOk result (λ b. IsTrue b → (r : Recording (List ReadValue))
         × AreReadsOf kept.entry.reads.now r.inner
         × IsLeft asked.entry NotHeld kept.entry r) }
@@ -147,16 +152,16 @@ pub fn leaves(alloc: Global, asked: Asked, kept: Kept) -> Result<bool, Unfit>
 /// fault and this key.
 pub fn leaves_refused(
     alloc: Global,
-    asked: Asked,
+    asked: KeyParts,
     fault: ReadFault,
-    refused: Option<Asked>,
+    refused: Option<KeyParts>,
 ) -> Result<bool, Unfit>
     ensures { IfOk result (λ b. IsTrue b → (r : Recording SpecRefusing)
         × (r.inner ≡ record { 0 = fault })
         × IsLeftUnread asked.entry fault refused.entry r) }
 {
     let key = query_of(alloc, asked)?;
-    let kept = Kept {
+    let kept = KeptReads {
         reads: &[],
         fault: Some(fault),
         refused,

@@ -2,10 +2,10 @@
 ghost use Rattle.std.specs.Prelude.{◌≡◌, ◌↔◌, IsTrue, IfOk};
 ghost use Rattle.result_bytes.specs.Values.{canon};
 ghost use Rattle.answer_fixtures.specs.Telling.{Tell};
-ghost use Rattle.run_fixtures.specs.Reading.{ComesTo, Wants};
+ghost use Rattle.run_fixtures.specs.Reading.{EndsWithValue, Wants};
 
 use crate::reads::{Given, are_reads};
-use crate::refusals::{Kept, keeps};
+use crate::refusals::{KeptReads, keeps};
 use answer_fixtures::{Unfit, is_spelled};
 use fingerprint::seal;
 use recorder::{AnswerList, ReadFault, Recorder, RunFault};
@@ -29,7 +29,7 @@ fn is_come_to(
     reads: &[Given],
 ) -> Result<bool, Unfit>
     ensures { IfOk result (λ b. IsTrue b
-        ↔ ComesTo digits.now reads.now end recorder.now.told) }
+        ↔ EndsWithValue digits.now reads.now end recorder.now.told) }
 {
     match end {
         Ok(value) => {
@@ -47,7 +47,7 @@ pub fn comes_to(
     digits: &str,
     reads: &[Given],
 ) -> Result<bool, Unfit>
-    ensures { IfOk result (λ b. IsTrue b ↔ ComesTo digits.now reads.now end recorder.told) }
+    ensures { IfOk result (λ b. IsTrue b ↔ EndsWithValue digits.now reads.now end recorder.told) }
 {
     is_come_to(alloc, end, &recorder, digits, reads)
 }
@@ -64,7 +64,7 @@ fn is_wanted(
     alloc: Global,
     end: Result<Value, RunFault>,
     recorder: &Recorder<AnswerList>,
-    kept: Kept,
+    kept: KeptReads,
 ) -> Result<bool, Unfit>
     ensures { IfOk result (λ b. IsTrue b ↔ Wants kept.entry end recorder.now) }
 {
@@ -80,7 +80,7 @@ pub fn wants(
     alloc: Global,
     end: Result<Value, RunFault>,
     recorder: Recorder<AnswerList>,
-    kept: Kept,
+    kept: KeptReads,
 ) -> Result<bool, Unfit>
     ensures { IfOk result (λ b. IsTrue b ↔ Wants kept.entry end recorder) }
 {

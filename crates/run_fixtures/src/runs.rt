@@ -1,16 +1,16 @@
 //! Runs of the sample runner.
 ghost use Rattle.std.specs.Prelude.{◌≡◌, ◌↔◌, ◌<◌, IsTrue, IfOk};
-ghost use Rattle.recorder.specs.Backed.{rank as rank_of};
+ghost use Rattle.item_ids.specs.Inputs.{rank as rank_of};
 ghost use Rattle.recorder.specs.Runs.{IsOutcome};
 ghost use Rattle.runner_fixtures.specs.Meaning.{sample_mean};
 ghost use Rattle.runner_fixtures.specs.Programs.{sample_reads};
 ghost use Rattle.answer_fixtures.specs.Telling.{IsKeyOf};
-ghost use Rattle.run_fixtures.specs.Reading.{IsOutcomeOf, IsGiven};
+ghost use Rattle.run_fixtures.specs.Reading.{IsOutcomeOf, IsGivenOutcome};
 
 use crate::answers::list_of;
 use crate::lent::record_over;
 use crate::reads::{Given, are_reads};
-use answer_fixtures::{Asked, Unfit, is_key, is_spelled, key_of};
+use answer_fixtures::{KeyParts, Unfit, is_key, is_spelled, key_of};
 use item_ids::{Key, rank};
 use profiles::Profile;
 use recorder::{AnswerList, Outcome};
@@ -18,7 +18,7 @@ use runner_fixtures::SampleRunner;
 use std::alloc::Global;
 
 /// The key of a query that is no input.
-pub(crate) fn query_of(alloc: Global, asked: Asked) -> Result<Key, Unfit>
+pub(crate) fn query_of(alloc: Global, asked: KeyParts) -> Result<Key, Unfit>
     ensures no_input { IfOk result (λ key. 0 < rank_of key) }
     ensures told { IfOk result (IsKeyOf asked.entry) }
 {
@@ -48,7 +48,7 @@ fn outcome_over(
 fn outcome_by(
     alloc: Global,
     profile: Profile,
-    asked: Asked,
+    asked: KeyParts,
     list: &mut AnswerList,
 ) -> Result<Outcome<SampleRunner>, Unfit>
     ensures key { IfOk result (λ o. IsKeyOf asked.entry o.key) }
@@ -63,7 +63,7 @@ fn outcome_by(
 pub fn outcome_of(
     alloc: Global,
     profile: Profile,
-    asked: Asked,
+    asked: KeyParts,
     given: &[Given],
 ) -> Result<Outcome<SampleRunner>, Unfit>
     ensures key { IfOk result (λ o. IsKeyOf asked.entry o.key) }
@@ -93,7 +93,7 @@ fn is_outcome(
 
 /// Whether a run of the key over these answers reads just them, in this order, and has this result.
 pub fn gives(alloc: Global, run: Given, reads: &[Given]) -> Result<bool, Unfit>
-    ensures { IfOk result (IsGiven run.entry reads.now) }
+    ensures { IfOk result (IsGivenOutcome run.entry reads.now) }
 {
     let outcome = outcome_of(alloc, Profile::One, run.0, reads)?;
     is_outcome(alloc, &outcome, run, reads)
@@ -106,7 +106,7 @@ fn gives_by(
     reads: &[Given],
     list: &mut AnswerList,
 ) -> Result<bool, Unfit>
-    ensures { IfOk result (IsGiven run.entry reads.now) }
+    ensures { IfOk result (IsGivenOutcome run.entry reads.now) }
 {
     let outcome = outcome_by(alloc, Profile::One, run.0, list)?;
     is_outcome(alloc, &outcome, run, reads)
@@ -115,7 +115,7 @@ fn gives_by(
 /// Whether two runs, one after the other, over one list of these answers, which is lent to both, read just them and
 /// have this result.
 pub fn gives_over_lent(alloc: Global, run: Given, reads: &[Given]) -> Result<bool, Unfit>
-    ensures { IfOk result (IsGiven run.entry reads.now) }
+    ensures { IfOk result (IsGivenOutcome run.entry reads.now) }
 {
     let mut list = list_of(alloc, reads)?;
     match gives_by(alloc, run, reads, &mut list) {
@@ -128,7 +128,7 @@ pub fn gives_over_lent(alloc: Global, run: Given, reads: &[Given]) -> Result<boo
 pub fn tells_profile(
     alloc: Global,
     profile: Profile,
-    asked: Asked,
+    asked: KeyParts,
     given: &[Given],
 ) -> Result<bool, Unfit>
     ensures { IfOk result (λ b. IsTrue b) }

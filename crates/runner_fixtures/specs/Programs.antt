@@ -2,38 +2,21 @@
 use Rattle.std.specs.Prelude.{ℕ, Bool, false, ◌||◌, if◌then◌else◌, List, [], Option, Some, None, is_some, is_none, bytes_eq}
 use Rattle.item_ids.specs.declared.key.Key.{Key}
 use Rattle.item_ids.specs.declared.key.Key.TheVariants as keys
-use Rattle.result_bytes.specs.Payloads.{HeaderValue, SignatureValue}
+use Rattle.result_bytes.specs.Payloads.{HeaderValue}
+use Rattle.result_bytes.specs.Parts.{files_in, header_in, signature_in, source_in}
 use Rattle.result_bytes.specs.declared.value.Value.{Value}
-use Rattle.result_bytes.specs.declared.value.Value.TheVariants.{Files, Source, Header, Sig, CheckClass, CheckBody}
+use Rattle.result_bytes.specs.declared.value.Value.TheVariants.{Header, Sig, CheckClass, CheckBody}
 use Rattle.recorder.specs.Projects.{Project}
 use Rattle.recorder.specs.Backed.{Queries}
 use Rattle.recorder.specs.Programs.{Prog, Ret, Ask, asks, each}
 use Rattle.runner_fixtures.specs.Phrases.{Phrase, Phrases, Named, Called, NoMore, More, phrase_for}
 use Rattle.runner_fixtures.specs.Meaning.{header_value, is_main, signature_of, faults_if, empty_of, sample_mean}
 
--- ---- what an answer says
-
-abbrev pub names_in : Value → List (List ℕ)
-names_in (Files names) = names
-names_in _ = []
-
-abbrev pub bytes_in : Value → Option (List ℕ)
-bytes_in (Source bytes) = bytes
-bytes_in _ = None
-
-abbrev pub header_in : Value → Option HeaderValue
-header_in (Header h) = h
-header_in _ = None
-
-abbrev pub signature_in : Value → Option SignatureValue
-signature_in (Sig s) = s
-signature_in _ = None
-
 -- ---- the kinds
 
 -- Header(f): its Source
 abbrev pub header_steps : List ℕ → (Value → Prog) → Prog
-header_steps f k = Ask (keys.Source f) (λ v. k (Header (header_value (bytes_in v))))
+header_steps f k = Ask (keys.Source f) (λ v. k (Header (header_value (source_in v))))
 
 -- Sig(f, g): Header of f, and where f is there, Header of g and that of f again
 abbrev pub sig_both : List ℕ → List ℕ → (Value → Prog) → Prog
@@ -54,7 +37,7 @@ main_step n found k = Ask (keys.Header n) (λ v. k (found || is_main (header_in 
 
 abbrev pub class_steps : (Value → Prog) → Prog
 class_steps k =
-    Ask keys.Files (λ v. each main_step (names_in v) false
+    Ask keys.Files (λ v. each main_step (files_in v) false
     (λ found. k (CheckClass (faults_if found))))
 
 -- two names: Sig of both

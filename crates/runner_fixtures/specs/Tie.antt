@@ -3,16 +3,18 @@ use Rattle.std.proofs.Common.{◌≡◌, ℕ, ◌<◌, Bool, true, false, ◌||�
 use Rattle.std.specs.Prelude.{bytes_eq}
 use Rattle.item_ids.specs.declared.key.Key.{Key}
 use Rattle.item_ids.specs.declared.key.Key.TheVariants as keys
+use Rattle.item_ids.specs.Inputs.{rank}
 use Rattle.result_bytes.specs.Payloads.{HeaderValue}
 use Rattle.result_bytes.specs.declared.value.Value.TheVariants.{Header, Sig, CheckClass, CheckBody}
 use Rattle.mj_project.specs.Projects.{names_of}
 use Rattle.recorder.specs.Projects.{Project}
-use Rattle.recorder.specs.Backed.{rank, AreLawful}
+use Rattle.recorder.specs.Backed.{AreLawful}
 use Rattle.recorder.specs.Programs.{Prog, Ret, Ask, runs, asks, Fits, Tied}
 use Rattle.recorder.proofs.Rules.{program_laws, programs_alike, fold_of, each_runs, each_fits}
 use Rattle.runner_fixtures.specs.Phrases.{Phrase, Phrases, Named, Called, NoMore, More, phrase_for}
 use Rattle.runner_fixtures.specs.Meaning.{header_at, signature_of, signature_at, is_main, any_main, meet, type_of, types_of, faults_if, sample_mean}
-use Rattle.runner_fixtures.specs.Programs.{names_in, header_in, signature_in, header_steps, sig_rest, sig_steps, main_step, class_steps, meet_step, phrase_step, phrases_step, body_steps, steps_of, prog_of, sample_reads, sample_queries}
+use Rattle.result_bytes.specs.Parts.{files_in, header_in, signature_in}
+use Rattle.runner_fixtures.specs.Programs.{header_steps, sig_rest, sig_steps, main_step, class_steps, meet_step, phrase_step, phrases_step, body_steps, steps_of, prog_of, sample_reads, sample_queries}
 
 -- ---- what each program computes
 
@@ -112,7 +114,7 @@ unfolding Fits
 class_fits f = (
   omega arith,
   λ v. each_fits (keys.CheckClass f) main_step
-      (λ n b k h. (omega arith, λ w. h (b || is_main (header_in w)))) (names_in v) false
+      (λ n b k h. (omega arith, λ w. h (b || is_main (header_in w)))) (files_in v) false
       (λ b. Ret (CheckClass (faults_if b))) (λ b. refl),
 )
 

@@ -2,9 +2,10 @@
 ghost use Rattle.std.specs.Prelude.{◌≡◌, List, ℕ, Bool, false, IfOk, IfErr, OnOk, OnErr};
 ghost use Rattle.recorder.specs.Programs.{Goes, GivesUp, each};
 ghost use Rattle.runner_fixtures.specs.Meaning.{is_main, faults_if};
-ghost use Rattle.runner_fixtures.specs.Programs.{names_in as names_told, header_in as header_told, main_step, class_steps, body_steps};
+ghost use Rattle.result_bytes.specs.Parts.{header_in};
+ghost use Rattle.runner_fixtures.specs.Programs.{main_step, class_steps, body_steps};
 
-use crate::headers::{ask_header, header_in};
+use crate::headers::ask_header;
 use crate::phrase::phrase_of;
 use crate::walk::walk;
 use answer_bytes::Faults;
@@ -16,21 +17,11 @@ use recorder::{Reader, Recorder, RunFault, ask_key};
 use result_bytes::Value;
 use std::alloc::{AllocError, Global};
 
-/// The names in an answer.
-fn names_in(value: &Value) -> &[Name]
-    ensures { result.now ≡ names_told value.now }
-{
-    match value {
-        Value::Files(files) => files.names(),
-        _ => &[],
-    }
-}
-
 /// Whether an answer has the header of an empty file.
 fn is_main_in(value: &Value) -> bool
-    ensures { result ≡ is_main (header_told value.now) }
+    ensures { result ≡ is_main (header_in value.now) }
 {
-    match header_in(value) {
+    match value.header() {
         Some(header) => header.is_main(),
         None => false,
     }
@@ -94,7 +85,7 @@ pub fn check_class<D: Reader>(alloc: Global, recorder: &mut Recorder<D>) -> Resu
     ensures follows { D.follows recorder.old.inner recorder.new.inner }
 {
     let sealed = ask_key(recorder, &Key::Files)?;
-    let found = look_at_all(alloc, recorder, names_in(sealed.value()))?;
+    let found = look_at_all(alloc, recorder, sealed.value().files())?;
     let faults = faults_for(alloc, found)?;
     Ok(Value::CheckClass(faults))
 }

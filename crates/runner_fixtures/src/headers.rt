@@ -4,7 +4,7 @@ ghost use Rattle.std.specs.Arc.{arc_value};
 ghost use Rattle.item_ids.specs.declared.key.Key.TheVariants as keys;
 ghost use Rattle.recorder.specs.Programs.{Ask, Goes, GivesUp};
 ghost use Rattle.runner_fixtures.specs.Meaning.{header_value, signature_of};
-ghost use Rattle.runner_fixtures.specs.Programs.{header_in as header_told, signature_in as signature_told, bytes_in as bytes_told, header_steps, sig_steps, sig_both};
+ghost use Rattle.runner_fixtures.specs.Programs.{header_steps, sig_steps, sig_both};
 
 use fingerprint::Sealed;
 use item_ids::Key;
@@ -55,36 +55,6 @@ pub fn ask_signature<D: Reader>(
     ask(recorder, Key::Sig(file.copy(alloc)?, other.copy(alloc)?))
 }
 
-/// The header in an answer.
-pub fn header_in(value: &Value) -> Option<&Header>
-    ensures { option_copied result ≡ header_told value.now }
-{
-    match value {
-        Value::Header(header) => header.as_ref(),
-        _ => None,
-    }
-}
-
-/// The signature in an answer.
-pub fn signature_in(value: &Value) -> Option<&Signature>
-    ensures { option_copied result ≡ signature_told value.now }
-{
-    match value {
-        Value::Sig(signature) => signature.as_ref(),
-        _ => None,
-    }
-}
-
-/// The bytes in an answer.
-fn bytes_in(value: &Value) -> Option<&Text>
-    ensures { option_copied result ≡ bytes_told value.now }
-{
-    match value {
-        Value::Source(text) => text.as_ref(),
-        _ => None,
-    }
-}
-
 /// The header of a file with these bytes.
 fn header_for(alloc: Global, text: Option<&Text>) -> Option<Header>
     ensures { result ≡ header_value (option_copied text.entry) }
@@ -109,7 +79,7 @@ pub fn run_header<D: Reader>(
     ensures follows { D.follows recorder.old.inner recorder.new.inner }
 {
     let sealed = ask(recorder, Key::Source(file.copy(alloc)?))?;
-    Ok(Value::Header(header_for(alloc, bytes_in(sealed.value()))))
+    Ok(Value::Header(header_for(alloc, sealed.value().source())))
 }
 
 /// The signature of a file that exists.
@@ -150,7 +120,7 @@ pub fn run_signature<D: Reader>(
     ensures follows { D.follows recorder.old.inner recorder.new.inner }
 {
     let sealed = ask_header(alloc, recorder, file)?;
-    match header_in(sealed.value()) {
+    match sealed.value().header() {
         None => Ok(Value::Sig(None)),
         Some(_) => run_both(alloc, recorder, file, other),
     }
@@ -170,6 +140,6 @@ fn run_both<D: Reader>(
 {
     let second = ask_header(alloc, recorder, other)?;
     let first = ask_header(alloc, recorder, file)?;
-    let signature = signature_for(alloc, header_in(first.value()), header_in(second.value()))?;
+    let signature = signature_for(alloc, first.value().header(), second.value().header())?;
     Ok(Value::Sig(signature))
 }

@@ -4,7 +4,7 @@ ghost use Rattle.recorder.specs.Programs.{Goes, GivesUp, each};
 ghost use Rattle.runner_fixtures.specs.Programs.{name_step, signed_step, names_step, meet_step, phrase_step, part_step};
 ghost use Rattle.runner_fixtures.specs.View.{view_of};
 
-use crate::headers::{ask_header, ask_signature, header_in, signature_in};
+use crate::headers::{ask_header, ask_signature};
 use crate::phrase::Phrase;
 use mj_lexer::Name;
 use recorder::{Reader, Recorder, RunFault};
@@ -21,7 +21,7 @@ fn walk_name<D: Reader>(
     ensures follows { D.follows recorder.old.inner recorder.new.inner }
 {
     let sealed = ask_header(alloc, recorder, name)?;
-    if header_in(sealed.value()).is_some() {
+    if sealed.value().header().is_some() {
         let found = name.copy(alloc)?;
         Ok(Some(found))
     } else {
@@ -43,7 +43,7 @@ fn meet_signed<D: Reader>(
     ensures follows { D.follows recorder.old.inner recorder.new.inner }
 {
     let sealed = ask_signature(alloc, recorder, first, second)?;
-    if signature_in(sealed.value()).is_some() {
+    if sealed.value().signature().is_some() {
         let found = second.copy(alloc)?;
         Ok(Some(found))
     } else {

@@ -1,12 +1,12 @@
-use answer_fixtures::Asked;
+use answer_fixtures::KeyParts;
 use item_ids::Kind;
 use run_fixtures::{Given, gives_over_lent};
 use std::test::*;
 
-const SOURCE: Given = Given(Asked(Kind::Source, "a", ""), "0101000000000000000141");
+const SOURCE: Given = Given(KeyParts(Kind::Source, "a", ""), "0101000000000000000141");
 
 const HEADER: Given = Given(
-    Asked(Kind::Header, "a", ""),
+    KeyParts(Kind::Header, "a", ""),
     "0401000000000000000000000000000000000000",
 );
 

@@ -1,5 +1,5 @@
-use answer_fixtures::Asked;
-use fingerprint::OpenFault;
+use answer_fixtures::KeyParts;
+use fingerprint::SealedFault;
 use item_ids::Kind;
 use recorder::{ReadFault, RunFault};
 use result_bytes::Refusal;
@@ -7,11 +7,11 @@ use run_fixtures::{Given, are_apart, are_same, holds};
 use std::fmt::Display;
 use std::test::*;
 
-const FULL: Given = Given(Asked(Kind::Source, "a", ""), "0101000000000000000141");
+const FULL: Given = Given(KeyParts(Kind::Source, "a", ""), "0101000000000000000141");
 
-const EMPTY: Given = Given(Asked(Kind::Source, "b", ""), "01010000000000000000");
+const EMPTY: Given = Given(KeyParts(Kind::Source, "b", ""), "01010000000000000000");
 
-const MISSING: Given = Given(Asked(Kind::Source, "c", ""), "0100");
+const MISSING: Given = Given(KeyParts(Kind::Source, "c", ""), "0100");
 
 #[test]
 fn same_results(rt: HostRuntime) -> Result<(), Fail> {
@@ -48,9 +48,9 @@ const REFUSALS: &[(Refusal, &str)] = &[
     (Refusal::OutOfMemory, "out of memory"),
 ];
 
-const OPEN_FAULTS: &[(OpenFault, &str)] = &[
-    (OpenFault::Refused(Refusal::Short), "5.1 Short"),
-    (OpenFault::WrongPrint, "6.1 WrongPrint"),
+const OPEN_FAULTS: &[(SealedFault, &str)] = &[
+    (SealedFault::Refused(Refusal::Short), "5.1 Short"),
+    (SealedFault::WrongPrint, "6.1 WrongPrint"),
 ];
 
 const RUN_FAULTS: &[(RunFault, &str)] = &[

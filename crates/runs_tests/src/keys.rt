@@ -1,4 +1,4 @@
-use answer_fixtures::{Asked, Unfit, is_copy, is_less, is_made, is_named, key_of};
+use answer_fixtures::{KeyParts, Unfit, is_copy, is_less, is_made, is_named, key_of};
 use indexmap::IndexMap;
 use item_ids::{Kind, rank};
 use std::alloc::Global;
@@ -96,34 +96,34 @@ fn numbers_and_ranks(rt: HostRuntime) {
 
 /// Two keys, the lesser one first.
 struct Ordered {
-    lesser: Asked<'static>,
-    greater: Asked<'static>,
+    lesser: KeyParts<'static>,
+    greater: KeyParts<'static>,
 }
 
 const ORDERED: &[Ordered] = &[
     Ordered {
-        lesser: Asked(Kind::Source, "B.java", ""),
-        greater: Asked(Kind::Source, "a.java", ""),
+        lesser: KeyParts(Kind::Source, "B.java", ""),
+        greater: KeyParts(Kind::Source, "a.java", ""),
     },
     Ordered {
-        lesser: Asked(Kind::Header, "z", ""),
-        greater: Asked(Kind::Method, "A", "a"),
+        lesser: KeyParts(Kind::Header, "z", ""),
+        greater: KeyParts(Kind::Method, "A", "a"),
     },
     Ordered {
-        lesser: Asked(Kind::Method, "A", "z"),
-        greater: Asked(Kind::Method, "B", "a"),
+        lesser: KeyParts(Kind::Method, "A", "z"),
+        greater: KeyParts(Kind::Method, "B", "a"),
     },
     Ordered {
-        lesser: Asked(Kind::Method, "A", "b"),
-        greater: Asked(Kind::Method, "Aa", "a"),
+        lesser: KeyParts(Kind::Method, "A", "b"),
+        greater: KeyParts(Kind::Method, "Aa", "a"),
     },
     Ordered {
-        lesser: Asked(Kind::Files, "", ""),
-        greater: Asked(Kind::Source, "A", ""),
+        lesser: KeyParts(Kind::Files, "", ""),
+        greater: KeyParts(Kind::Source, "A", ""),
     },
     Ordered {
-        lesser: Asked(Kind::Diags, "z", ""),
-        greater: Asked(Kind::Answer, "", ""),
+        lesser: KeyParts(Kind::Diags, "z", ""),
+        greater: KeyParts(Kind::Answer, "", ""),
     },
 ];
 
@@ -151,9 +151,9 @@ fn lesser_keys(rt: HostRuntime) {
     }
 }
 
-const BODY: Asked = Asked(Kind::CheckBody, "A", "f");
+const BODY: KeyParts = KeyParts(Kind::CheckBody, "A", "f");
 
-const SWAPPED: Asked = Asked(Kind::CheckBody, "f", "A");
+const SWAPPED: KeyParts = KeyParts(Kind::CheckBody, "f", "A");
 
 #[test]
 fn names_of_a_key(rt: HostRuntime) {
@@ -161,12 +161,12 @@ fn names_of_a_key(rt: HostRuntime) {
     assert!(rt; is_named(rt.alloc(), BODY, SWAPPED) == Ok(false));
 }
 
-const UNFIT: &[Asked] = &[
-    Asked(Kind::Method, "A", ""),
-    Asked(Kind::Answer, "A", ""),
-    Asked(Kind::Header, "", ""),
-    Asked(Kind::Tree, "A", "f"),
-    Asked(Kind::Sig, "", "f"),
+const UNFIT: &[KeyParts] = &[
+    KeyParts(Kind::Method, "A", ""),
+    KeyParts(Kind::Answer, "A", ""),
+    KeyParts(Kind::Header, "", ""),
+    KeyParts(Kind::Tree, "A", "f"),
+    KeyParts(Kind::Sig, "", "f"),
 ];
 
 #[test]
@@ -177,15 +177,15 @@ fn names_that_fit_no_kind(rt: HostRuntime) {
 }
 
 // Keys that differ in kind, in class, in method and in where a name ends.
-const MAPPED: &[Asked] = &[
-    Asked(Kind::Files, "", ""),
-    Asked(Kind::Header, "A", ""),
-    Asked(Kind::Supers, "A", ""),
-    Asked(Kind::Header, "B", ""),
-    Asked(Kind::Method, "A", "f"),
-    Asked(Kind::Method, "A", "g"),
-    Asked(Kind::Sig, "Ab", "c"),
-    Asked(Kind::Sig, "A", "bc"),
+const MAPPED: &[KeyParts] = &[
+    KeyParts(Kind::Files, "", ""),
+    KeyParts(Kind::Header, "A", ""),
+    KeyParts(Kind::Supers, "A", ""),
+    KeyParts(Kind::Header, "B", ""),
+    KeyParts(Kind::Method, "A", "f"),
+    KeyParts(Kind::Method, "A", "g"),
+    KeyParts(Kind::Sig, "Ab", "c"),
+    KeyParts(Kind::Sig, "A", "bc"),
 ];
 
 // The functions on maps are those of any type of keys, so that none of them writes out how a key of a query is dropped.
@@ -199,9 +199,9 @@ fn put<K: Eq + Hash + Drop>(map: &mut IndexMap<K, usize>, key: K, at: usize) -> 
 }
 
 /// Puts each key into a map with its place.
-fn put_all<'a, K: Eq + Hash + Drop, F: Fn(Asked<'a>) -> Result<K, Unfit>>(
+fn put_all<'a, K: Eq + Hash + Drop, F: Fn(KeyParts<'a>) -> Result<K, Unfit>>(
     map: &mut IndexMap<K, usize>,
-    keys: &[Asked<'a>],
+    keys: &[KeyParts<'a>],
     make: &F,
 ) -> Result<(), Unfit>
     requires { F.IsAlwaysCallable make.now }
@@ -218,9 +218,9 @@ fn is_found<K: Eq + Hash + Drop>(map: &IndexMap<K, usize>, key: K, at: usize) ->
 }
 
 /// Whether the map finds each of these keys at its place, and no others are in it.
-fn finds_all<'a, K: Eq + Hash + Drop, F: Fn(Asked<'a>) -> Result<K, Unfit>>(
+fn finds_all<'a, K: Eq + Hash + Drop, F: Fn(KeyParts<'a>) -> Result<K, Unfit>>(
     map: &IndexMap<K, usize>,
-    keys: &[Asked<'a>],
+    keys: &[KeyParts<'a>],
     make: &F,
 ) -> Result<bool, Unfit>
     requires { F.IsAlwaysCallable make.now }
@@ -234,9 +234,9 @@ fn finds_all<'a, K: Eq + Hash + Drop, F: Fn(Asked<'a>) -> Result<K, Unfit>>(
 }
 
 /// Fills an empty map with the keys, in their order, and answers whether it finds each at its place.
-fn finds_what_is_put<'a, K: Eq + Hash + Drop, F: Fn(Asked<'a>) -> Result<K, Unfit>>(
+fn finds_what_is_put<'a, K: Eq + Hash + Drop, F: Fn(KeyParts<'a>) -> Result<K, Unfit>>(
     map: &mut IndexMap<K, usize>,
-    keys: &[Asked<'a>],
+    keys: &[KeyParts<'a>],
     make: &F,
 ) -> Result<bool, Unfit>
     requires { F.IsAlwaysCallable make.now }
@@ -246,9 +246,9 @@ fn finds_what_is_put<'a, K: Eq + Hash + Drop, F: Fn(Asked<'a>) -> Result<K, Unfi
 }
 
 /// Whether a map of the keys, in their order, finds each at its place.
-fn are_found<'a, K: Eq + Hash + Drop, F: Fn(Asked<'a>) -> Result<K, Unfit>>(
+fn are_found<'a, K: Eq + Hash + Drop, F: Fn(KeyParts<'a>) -> Result<K, Unfit>>(
     alloc: Global,
-    keys: &[Asked<'a>],
+    keys: &[KeyParts<'a>],
     make: &F,
 ) -> Result<bool, Unfit>
     requires { F.IsAlwaysCallable make.now }

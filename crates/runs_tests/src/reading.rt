@@ -1,16 +1,16 @@
-use answer_fixtures::Asked;
+use answer_fixtures::KeyParts;
 use item_ids::Kind;
 use recorder::ReadFault;
 use run_fixtures::{
-    Ask, Given, Kept, answers_after, count_after, has_read_copy, is_copy_of, keeps_after,
+    Ask, Given, KeptReads, answers_after, count_after, has_read_copy, is_copy_of, keeps_after,
 };
 use std::test::*;
 
-const A: Asked = Asked(Kind::Source, "a", "");
+const A: KeyParts = KeyParts(Kind::Source, "a", "");
 
-const B: Asked = Asked(Kind::Source, "b", "");
+const B: KeyParts = KeyParts(Kind::Source, "b", "");
 
-const MISSING: Asked = Asked(Kind::Source, "c", "");
+const MISSING: KeyParts = KeyParts(Kind::Source, "c", "");
 
 const FIRST: Given = Given(A, "0101000000000000000141");
 
@@ -33,7 +33,7 @@ const REFUSED: &[Ask] = &[
 /// What a recorder is asked, what it keeps then, and how often its reader was asked.
 struct Row {
     asks: &'static [Ask<'static>],
-    kept: Kept<'static>,
+    kept: KeptReads<'static>,
     count: u64,
 }
 
@@ -41,7 +41,7 @@ struct Row {
 const TABLE: &[Row] = &[
     Row {
         asks: &[],
-        kept: Kept {
+        kept: KeptReads {
             reads: &[],
             fault: None,
             refused: None,
@@ -50,7 +50,7 @@ const TABLE: &[Row] = &[
     },
     Row {
         asks: REPEATED,
-        kept: Kept {
+        kept: KeptReads {
             reads: &[SECOND, FIRST],
             fault: None,
             refused: None,
@@ -59,7 +59,7 @@ const TABLE: &[Row] = &[
     },
     Row {
         asks: REFUSED,
-        kept: Kept {
+        kept: KeptReads {
             reads: &[FIRST],
             fault: Some(ReadFault::NotHeld),
             refused: Some(MISSING),

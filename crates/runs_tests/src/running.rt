@@ -1,8 +1,8 @@
-use answer_fixtures::Asked;
+use answer_fixtures::KeyParts;
 use item_ids::Kind;
 use profiles::Profile;
 use recorder::ReadFault;
-use run_fixtures::{Given, Kept, gives, is_log_empty, leaves, leaves_refused, tells_profile};
+use run_fixtures::{Given, KeptReads, gives, is_log_empty, leaves, leaves_refused, tells_profile};
 use std::test::*;
 
 /// A run: its key and its result, and the answers that it reads, in their order.
@@ -12,42 +12,42 @@ struct Run {
 }
 
 // What the queries of a file a with bytes, an empty file b and no file c answer.
-const SOURCE_A: Given = Given(Asked(Kind::Source, "a", ""), "0101000000000000000141");
+const SOURCE_A: Given = Given(KeyParts(Kind::Source, "a", ""), "0101000000000000000141");
 
-const SOURCE_B: Given = Given(Asked(Kind::Source, "b", ""), "01010000000000000000");
+const SOURCE_B: Given = Given(KeyParts(Kind::Source, "b", ""), "01010000000000000000");
 
-const SOURCE_C: Given = Given(Asked(Kind::Source, "c", ""), "0100");
+const SOURCE_C: Given = Given(KeyParts(Kind::Source, "c", ""), "0100");
 
 const HEADER_A: Given = Given(
-    Asked(Kind::Header, "a", ""),
+    KeyParts(Kind::Header, "a", ""),
     "0401000000000000000000000000000000000000",
 );
 
 const HEADER_B: Given = Given(
-    Asked(Kind::Header, "b", ""),
+    KeyParts(Kind::Header, "b", ""),
     "0401010000000000000000000000000000000000",
 );
 
-const HEADER_C: Given = Given(Asked(Kind::Header, "c", ""), "0400");
+const HEADER_C: Given = Given(KeyParts(Kind::Header, "c", ""), "0400");
 
 // The file a takes an int, the file b nothing. Each gives a boolean with a file that is there, else an int.
-const SIG_A_B: Given = Given(Asked(Kind::Sig, "a", "b"), "060100000000000000010001");
+const SIG_A_B: Given = Given(KeyParts(Kind::Sig, "a", "b"), "060100000000000000010001");
 
-const SIG_A_A: Given = Given(Asked(Kind::Sig, "a", "a"), "060100000000000000010001");
+const SIG_A_A: Given = Given(KeyParts(Kind::Sig, "a", "a"), "060100000000000000010001");
 
-const SIG_A_C: Given = Given(Asked(Kind::Sig, "a", "c"), "060100000000000000010000");
+const SIG_A_C: Given = Given(KeyParts(Kind::Sig, "a", "c"), "060100000000000000010000");
 
-const SIG_B_A: Given = Given(Asked(Kind::Sig, "b", "a"), "0601000000000000000001");
+const SIG_B_A: Given = Given(KeyParts(Kind::Sig, "b", "a"), "0601000000000000000001");
 
-const SIG_C_A: Given = Given(Asked(Kind::Sig, "c", "a"), "0600");
+const SIG_C_A: Given = Given(KeyParts(Kind::Sig, "c", "a"), "0600");
 
 // An answer that no project gives beside the headers.
-const NO_SIG_A_B: Given = Given(Asked(Kind::Sig, "a", "b"), "0600");
+const NO_SIG_A_B: Given = Given(KeyParts(Kind::Sig, "a", "b"), "0600");
 
 // The files a and b, and a alone.
-const BOTH: Given = Given(Asked(Kind::Files, "", ""), "00000000000000000201610162");
+const BOTH: Given = Given(KeyParts(Kind::Files, "", ""), "00000000000000000201610162");
 
-const ONE: Given = Given(Asked(Kind::Files, "", ""), "0000000000000000010161");
+const ONE: Given = Given(KeyParts(Kind::Files, "", ""), "0000000000000000010161");
 
 // Headers; signatures; checks of classes, with one diagnostic where some file is empty: E310 at the class; checks of
 // bodies, with one diagnostic where the phrase of both names has no type; kinds that read nothing.
@@ -85,56 +85,65 @@ const RUNS: &[Run] = &[
         reads: &[HEADER_C],
     },
     Run {
-        gives: Given(Asked(Kind::CheckClass, "a", ""), "090000000000000001000136"),
+        gives: Given(
+            KeyParts(Kind::CheckClass, "a", ""),
+            "090000000000000001000136",
+        ),
         reads: &[BOTH, HEADER_A, HEADER_B],
     },
     Run {
-        gives: Given(Asked(Kind::CheckClass, "b", ""), "090000000000000000"),
+        gives: Given(KeyParts(Kind::CheckClass, "b", ""), "090000000000000000"),
         reads: &[ONE, HEADER_A],
     },
     Run {
-        gives: Given(Asked(Kind::CheckBody, "a", "b"), "0a0000000000000000"),
+        gives: Given(KeyParts(Kind::CheckBody, "a", "b"), "0a0000000000000000"),
         reads: &[HEADER_A, HEADER_B, SIG_A_B, SIG_B_A],
     },
     Run {
-        gives: Given(Asked(Kind::CheckBody, "a", "b"), "0a0000000000000001000136"),
+        gives: Given(
+            KeyParts(Kind::CheckBody, "a", "b"),
+            "0a0000000000000001000136",
+        ),
         reads: &[HEADER_A, HEADER_B, NO_SIG_A_B, SIG_B_A],
     },
     Run {
-        gives: Given(Asked(Kind::CheckBody, "a", "a"), "0a0000000000000000"),
+        gives: Given(KeyParts(Kind::CheckBody, "a", "a"), "0a0000000000000000"),
         reads: &[HEADER_A],
     },
     Run {
-        gives: Given(Asked(Kind::CheckBody, "c", "a"), "0a0000000000000001000136"),
+        gives: Given(
+            KeyParts(Kind::CheckBody, "c", "a"),
+            "0a0000000000000001000136",
+        ),
         reads: &[HEADER_C, HEADER_A],
     },
     Run {
-        gives: Given(Asked(Kind::Tree, "a", ""), "0200"),
+        gives: Given(KeyParts(Kind::Tree, "a", ""), "0200"),
         reads: &[],
     },
     Run {
-        gives: Given(Asked(Kind::Index, "", ""), "030000000000000000"),
+        gives: Given(KeyParts(Kind::Index, "", ""), "030000000000000000"),
         reads: &[],
     },
     Run {
-        gives: Given(Asked(Kind::Method, "a", "b"), "0500"),
+        gives: Given(KeyParts(Kind::Method, "a", "b"), "0500"),
         reads: &[],
     },
     Run {
-        gives: Given(Asked(Kind::Supers, "a", ""), "0700"),
+        gives: Given(KeyParts(Kind::Supers, "a", ""), "0700"),
         reads: &[],
     },
     Run {
-        gives: Given(Asked(Kind::Members, "a", ""), "0800"),
+        gives: Given(KeyParts(Kind::Members, "a", ""), "0800"),
         reads: &[],
     },
     Run {
-        gives: Given(Asked(Kind::Diags, "a", ""), "0b0000000000000000"),
+        gives: Given(KeyParts(Kind::Diags, "a", ""), "0b0000000000000000"),
         reads: &[],
     },
     Run {
         gives: Given(
-            Asked(Kind::Answer, "", ""),
+            KeyParts(Kind::Answer, "", ""),
             "0c00000000000000000000000000000000",
         ),
         reads: &[],
@@ -163,10 +172,10 @@ fn log_of_a_new_runner(rt: HostRuntime) {
 }
 
 // What is kept of a run whose second read has no answer: the first read, and of the second one the fault and the key.
-const HALF: Kept = Kept {
+const HALF: KeptReads = KeptReads {
     reads: &[HEADER_A],
     fault: Some(ReadFault::NotHeld),
-    refused: Some(Asked(Kind::Header, "b", "")),
+    refused: Some(KeyParts(Kind::Header, "b", "")),
 };
 
 // The call is logged.
@@ -177,9 +186,9 @@ fn key_that_is_not_held(rt: HostRuntime) -> Result<(), Fail> {
 }
 
 // Faults, and the key that is kept with each: none where memory ran out.
-const REFUSALS: &[(ReadFault, Option<Asked>)] = &[
-    (ReadFault::Stopped, Some(Asked(Kind::Source, "a", ""))),
-    (ReadFault::NotHeld, Some(Asked(Kind::Source, "a", ""))),
+const REFUSALS: &[(ReadFault, Option<KeyParts>)] = &[
+    (ReadFault::Stopped, Some(KeyParts(Kind::Source, "a", ""))),
+    (ReadFault::NotHeld, Some(KeyParts(Kind::Source, "a", ""))),
     (ReadFault::OutOfMemory, None),
 ];
 

@@ -7,7 +7,8 @@ appended : (old new : Option (List ℕ)) (bytes : List ℕ) → ((front : List �
 appended None new bytes h = tt
 appended (Some xs) new bytes h = subst (λ (n : Option (List ℕ)). Appends (Some xs) n bytes) (sym (h xs refl)) refl
 
-kept_behind : (old mid new : Option (List ℕ)) (bytes : List ℕ) → Appends old mid bytes → Keeps mid new → Appends old new bytes
+-- what was appended stays behind what there was
+pub kept_behind : (old mid new : Option (List ℕ)) (bytes : List ℕ) → Appends old mid bytes → Keeps mid new → Appends old new bytes
 kept_behind None mid new bytes a k = tt
 kept_behind (Some xs) None new bytes a k = absurd a
 kept_behind (Some xs) (Some ys) None bytes a k = absurd k

@@ -6,9 +6,9 @@ use Rattle.std.proofs.lemmas.List.{append_cancel_left, append_cancel_right, take
 use Rattle.std.proofs.lemmas.List.Elements.{All-contains, Contains-append_left, Contains-get_or, Contains-push, Contains-push_cases}
 use Rattle.std.specs.List.Sorted.{IsPermutation}
 use Rattle.std.proofs.lemmas.List.Sorted.{All-permutation, Contains-permutation}
-use Rattle.session_cache.specs.Names.{most, four_digits, name_of, AreFour, AreNumbers, IsSpelled, IsHighest}
-use Rattle.session_cache.specs.declared.names.Named.{Named}
-use Rattle.session_cache.specs.declared.names.Named.TheVariants.{Chain, Session}
+use Rattle.session_cache.specs.Names.{most, four_digits, entry_name, AreFour, AreNumbers, IsSpelled, IsHighest}
+use Rattle.session_cache.specs.declared.names.EntryKind.{EntryKind}
+use Rattle.session_cache.specs.declared.names.EntryKind.TheVariants.{Chain, Session}
 
 pub four_is : (n : ℕ) → n ≤ most
     → four_digits n ≡ (48 + n / 1000) ∷ (48 + n / 100 % 10) ∷ (48 + n / 10 % 10) ∷ (48 + n % 10) ∷ []
@@ -79,7 +79,7 @@ read_before text (Some n) end h = (h.0, sym (take-append-drop 4 text) ∙ (ap (�
 
 -- ---- the greatest of all
 
-pub same_name : (what : Named) (m n : ℕ) → m ≤ most → n ≤ most → name_of what m ≡ name_of what n → m ≡ n
+pub same_name : (what : EntryKind) (m n : ℕ) → m ≤ most → n ≤ most → entry_name what m ≡ entry_name what n → m ≡ n
 same_name Chain m n small le e = same_number m n small le (append_cancel_left (codes "c") _ _ e)
 same_name Session m n small le e =
     same_number m n small le (append_cancel_right _ _ (codes ".mjrg") (append_cancel_left (codes "s") _ _ e))
@@ -87,14 +87,14 @@ same_name Session m n small le e =
 some_is : {k r : ℕ} → ◌≡◌ {A = Option ℕ} (Some k) (Some r) → k ≡ r
 some_is e = cc
 
-pub raised : (what : Named) (highest : Option ℕ) (name : List ℕ) (n r : ℕ) → IsSpelled (name_of what) name (Some n) → n ≤ r
+pub raised : (what : EntryKind) (highest : Option ℕ) (name : List ℕ) (n r : ℕ) → IsSpelled (entry_name what) name (Some n) → n ≤ r
     → IfSome highest (λ h. h ≤ r) → (highest ≡ Some r) ⊎ (r ≡ n)
     → (front : List (List ℕ)) → IsHighest what front highest → IsHighest what (front ++ name ∷ []) (Some r)
 raised what None name n r named le above (inl is) front h = absurd cc
 raised what None name n r named le above (inr is) front h =
     (rw is named.0, (rw is (subst (λ (x : List ℕ). Contains (front ++ name ∷ []) x) named.1 (Contains-push front name))), λ m small has. by_case m small (Contains-push_cases front name _ has))
   where
-    by_case : (m : ℕ) → m ≤ most → Contains front (name_of what m) ⊎ (name ≡ name_of what m) → m ≤ r
+    by_case : (m : ℕ) → m ≤ most → Contains front (entry_name what m) ⊎ (name ≡ entry_name what m) → m ≤ r
     by_case m small (inl c) = absurd (h m small c)
     by_case m small (inr e) = omega (arith, le, same_name what m n small named.0 (sym e ∙ named.1))
 raised what (Some k) name n r named le above either front h = (small either, has either, λ m small_m c. by_case m small_m (Contains-push_cases front name _ c))
@@ -103,28 +103,28 @@ raised what (Some k) name n r named le above either front h = (small either, has
     small (inl e) = omega (arith, h.0, some_is e)
     small (inr e) = omega (arith, named.0, e)
 
-    has : (◌≡◌ {A = Option ℕ} (Some k) (Some r)) ⊎ (r ≡ n) → Contains (front ++ name ∷ []) (name_of what r)
-    has (inl e) = Contains-append_left front (name ∷ []) _ (subst (λ (x : ℕ). Contains front (name_of what x)) (some_is e) h.1)
+    has : (◌≡◌ {A = Option ℕ} (Some k) (Some r)) ⊎ (r ≡ n) → Contains (front ++ name ∷ []) (entry_name what r)
+    has (inl e) = Contains-append_left front (name ∷ []) _ (subst (λ (x : ℕ). Contains front (entry_name what x)) (some_is e) h.1)
     has (inr e) = rw e (subst (λ (x : List ℕ). Contains (front ++ name ∷ []) x) named.1 (Contains-push front name))
 
-    by_case : (m : ℕ) → m ≤ most → Contains front (name_of what m) ⊎ (name ≡ name_of what m) → m ≤ r
+    by_case : (m : ℕ) → m ≤ most → Contains front (entry_name what m) ⊎ (name ≡ entry_name what m) → m ≤ r
     by_case m small_m (inl c) = omega (arith, above, h.2 m small_m c)
     by_case m small_m (inr e) = omega (arith, le, same_name what m n small_m named.0 (sym e ∙ named.1))
 
-pub passed : (what : Named) (highest : Option ℕ) (name : List ℕ) → IsSpelled (name_of what) name None
+pub passed : (what : EntryKind) (highest : Option ℕ) (name : List ℕ) → IsSpelled (entry_name what) name None
     → (front : List (List ℕ)) → IsHighest what front highest → IsHighest what (front ++ name ∷ []) highest
 passed what None name named front h = λ m small c. by_case m small (Contains-push_cases front name _ c)
   where
-    by_case : (m : ℕ) → m ≤ most → Contains front (name_of what m) ⊎ (name ≡ name_of what m) → ⊥
+    by_case : (m : ℕ) → m ≤ most → Contains front (entry_name what m) ⊎ (name ≡ entry_name what m) → ⊥
     by_case m small (inl has) = h m small has
     by_case m small (inr e) = named m small e
 passed what (Some k) name named front h = (h.0, Contains-append_left front (name ∷ []) _ h.1, λ m small c. by_case m small (Contains-push_cases front name _ c))
   where
-    by_case : (m : ℕ) → m ≤ most → Contains front (name_of what m) ⊎ (name ≡ name_of what m) → m ≤ k
+    by_case : (m : ℕ) → m ≤ most → Contains front (entry_name what m) ⊎ (name ≡ entry_name what m) → m ≤ k
     by_case m small (inl has) = h.2 m small has
     by_case m small (inr e) = absurd (named m small e)
 
-pub more_names : (A : Type 0) (f : A → List ℕ) (what : Named) (highest : Option ℕ) (xs : List A) (i : ℕ) (x : A) → i < length xs
+pub more_names : (A : Type 0) (f : A → List ℕ) (what : EntryKind) (highest : Option ℕ) (xs : List A) (i : ℕ) (x : A) → i < length xs
     → get_or xs i x ≡ x → IsHighest what (map f (take i xs) ++ f x ∷ []) highest → IsHighest what (map f (take (i + 1) xs)) highest
 more_names A f what highest xs i x lt is h =
     subst (λ (l : List (List ℕ)). IsHighest what l highest)
@@ -132,41 +132,41 @@ more_names A f what highest xs i x lt is h =
 
 -- ---- all numbers
 
-pub no_numbers : (what : Named) → AreNumbers what [] []
+pub no_numbers : (what : EntryKind) → AreNumbers what [] []
 no_numbers what = record { named = λ k d lt. absurd (omega arith); all = λ n le c. absurd (omega (arith, c.1)) }
 
-pub number_added : (what : Named) (name : List ℕ) (n : ℕ) → IsSpelled (name_of what) name (Some n) → (front : List (List ℕ)) (numbers : List ℕ) → AreNumbers what front numbers
+pub number_added : (what : EntryKind) (name : List ℕ) (n : ℕ) → IsSpelled (entry_name what) name (Some n) → (front : List (List ℕ)) (numbers : List ℕ) → AreNumbers what front numbers
     → AreNumbers what (front ++ name ∷ []) (numbers ++ n ∷ [])
 number_added what name n spelled front numbers h = record {
   named = λ k d lt. is_named (get_or (numbers ++ n ∷ []) k d) (Contains-push_cases numbers n _ (Contains-get_or (numbers ++ n ∷ []) k d lt));
   all = λ m le c. is_there m le (Contains-push_cases front name _ c);
 }
   where
-    is_named : (m : ℕ) → Contains numbers m ⊎ (n ≡ m) → (m ≤ most) × Contains (front ++ name ∷ []) (name_of what m)
-    is_named m (inl c) = let x = All-contains (λ k. (k ≤ most) × Contains front (name_of what k)) numbers m h.named c in (x.0, Contains-append_left front (name ∷ []) _ x.1)
-    is_named m (inr e) = subst (λ (k : ℕ). (k ≤ most) × Contains (front ++ name ∷ []) (name_of what k)) e (spelled.0, subst (λ (x : List ℕ). Contains (front ++ name ∷ []) x) spelled.1 (Contains-push front name))
+    is_named : (m : ℕ) → Contains numbers m ⊎ (n ≡ m) → (m ≤ most) × Contains (front ++ name ∷ []) (entry_name what m)
+    is_named m (inl c) = let x = All-contains (λ k. (k ≤ most) × Contains front (entry_name what k)) numbers m h.named c in (x.0, Contains-append_left front (name ∷ []) _ x.1)
+    is_named m (inr e) = subst (λ (k : ℕ). (k ≤ most) × Contains (front ++ name ∷ []) (entry_name what k)) e (spelled.0, subst (λ (x : List ℕ). Contains (front ++ name ∷ []) x) spelled.1 (Contains-push front name))
 
-    is_there : (m : ℕ) → m ≤ most → Contains front (name_of what m) ⊎ (name ≡ name_of what m) → Contains (numbers ++ n ∷ []) m
+    is_there : (m : ℕ) → m ≤ most → Contains front (entry_name what m) ⊎ (name ≡ entry_name what m) → Contains (numbers ++ n ∷ []) m
     is_there m le (inl c) = Contains-append_left numbers (n ∷ []) m (h.all m le c)
     is_there m le (inr e) = subst (λ (k : ℕ). Contains (numbers ++ n ∷ []) k) (sym (same_name what m n le spelled.0 (sym e ∙ spelled.1))) (Contains-push numbers n)
 
-pub number_passed : (what : Named) (name : List ℕ) → IsSpelled (name_of what) name None → (front : List (List ℕ)) (numbers : List ℕ) → AreNumbers what front numbers → AreNumbers what (front ++ name ∷ []) numbers
+pub number_passed : (what : EntryKind) (name : List ℕ) → IsSpelled (entry_name what) name None → (front : List (List ℕ)) (numbers : List ℕ) → AreNumbers what front numbers → AreNumbers what (front ++ name ∷ []) numbers
 number_passed what name other front numbers h = record {
   named = λ k d lt. let x = h.named k d lt in (x.0, Contains-append_left front (name ∷ []) _ x.1);
   all = λ m le c. is_there m le (Contains-push_cases front name _ c);
 }
   where
-    is_there : (m : ℕ) → m ≤ most → Contains front (name_of what m) ⊎ (name ≡ name_of what m) → Contains numbers m
+    is_there : (m : ℕ) → m ≤ most → Contains front (entry_name what m) ⊎ (name ≡ entry_name what m) → Contains numbers m
     is_there m le (inl c) = h.all m le c
     is_there m le (inr e) = absurd (other m le e)
 
-pub numbers_sorted : (what : Named) (names : List (List ℕ)) (xs ys : List ℕ) → AreNumbers what names xs → IsPermutation xs ys → AreNumbers what names ys
+pub numbers_sorted : (what : EntryKind) (names : List (List ℕ)) (xs ys : List ℕ) → AreNumbers what names xs → IsPermutation xs ys → AreNumbers what names ys
 numbers_sorted what names xs ys h p = record {
-  named = All-permutation (λ n. (n ≤ most) × Contains names (name_of what n)) xs ys p h.named;
+  named = All-permutation (λ n. (n ≤ most) × Contains names (entry_name what n)) xs ys p h.named;
   all = λ n le c. Contains-permutation xs ys n p (h.all n le c);
 }
 
-pub more_numbers : (A : Type 0) (f : A → List ℕ) (what : Named) (numbers : List ℕ) (xs : List A) (i : ℕ) (x : A) → i < length xs
+pub more_numbers : (A : Type 0) (f : A → List ℕ) (what : EntryKind) (numbers : List ℕ) (xs : List A) (i : ℕ) (x : A) → i < length xs
     → get_or xs i x ≡ x → AreNumbers what (map f (take i xs) ++ f x ∷ []) numbers → AreNumbers what (map f (take (i + 1) xs)) numbers
 more_numbers A f what numbers xs i x lt is h =
     subst (λ (l : List (List ℕ)). AreNumbers what l numbers)

@@ -1,13 +1,13 @@
 //! Reading and writing the cache.
 ghost use Rattle.std.specs.Prelude.{◌≡◌, ◌≤◌, [], length, All, IfOk, IfErr, IsErrAnd};
 ghost use Rattle.session_cache.specs.Names.{most};
-ghost use Rattle.session_cache.specs.Starts.{IsFront, IsLast, IsPlace, IsStart, IsStartOf, IsStartless, IsUnread, IsUnwritten};
+ghost use Rattle.session_cache.specs.Starts.{IsChainFront, IsLastChain, IsSessionPlace, IsUnreadable, IsUnreadableCache, IsUnwritten};
 
-use crate::fault::CacheFault;
+use crate::fault::{CacheReadFault, CacheWriteFault};
 use crate::filling::{NewFile, write_to};
-use crate::names::{Named, highest, numbers_in};
-use crate::place::{Place, chain_path};
-use crate::start::{Last, Start, start_behind};
+use crate::names::{EntryKind, highest, numbers_in};
+use crate::place::{SessionPlace, chain_path};
+use crate::start::LastChain;
 use session_file::{FileFault, read, read_after, terms_of_start};
 use sessions::{Form, Session, Terms};
 use std::alloc::Global;
@@ -19,55 +19,46 @@ use std::{fs, io};
 /// How many bytes of a session's file are handed to the system at a time.
 const BUFFER: usize = 65536;
 
-/// Where the next session begins in the cache of this folder, by what is read of its last chain.
-pub fn find_start<R: Files + AllocGlobal>(rt: &R, dir: &str) -> Result<Start, CacheFault>
-    ensures behind { IfOk result IsStartOf }
-    ensures start { IfOk result IsStart }
-    ensures startless { IfErr result (IsStartless dir.now) }
-    ensures unnamed { dir.now ≡ [] → IsErrAnd result (IsUnread []) }
-{
-    match find_last(rt, dir) {
-        Ok(last) => Ok(start_behind(rt.alloc(), last)?),
-        Err(fault) => Err(fault),
-    }
-}
-
 /// Reads the last file of the last chain in the cache of this folder, over those in front of it that it is taken from. A
 /// folder that doesn't exist is an empty cache. An empty word names no folder, and can't be read.
-pub fn find_last<R: Files + AllocGlobal>(rt: &R, dir: &str) -> Result<Last, CacheFault>
-    ensures last { IfOk result IsLast }
-    ensures startless { IfErr result (IsStartless dir.now) }
-    ensures unnamed { dir.now ≡ [] → IsErrAnd result (IsUnread []) }
+pub fn find_last<R: Files + AllocGlobal>(rt: &R, dir: &str) -> Result<LastChain, CacheReadFault>
+    ensures last { IfOk result IsLastChain }
+    ensures unread { IfErr result (IsUnreadableCache dir.now) }
+    ensures unnamed { dir.now ≡ [] → IsErrAnd result (IsUnreadable []) }
 {
     if dir.is_empty() {
-        return Err(CacheFault::CannotRead(String::new(rt.alloc())));
+        return Err(CacheReadFault::CannotRead(String::new(rt.alloc())));
     }
     let chains = match names_in(rt, dir) {
         Ok(names) => names,
-        Err(error) if error.kind() == ErrorKind::NotFound => return Ok(Last::NoChain),
+        Err(error) if error.kind() == ErrorKind::NotFound => return Ok(LastChain::NoChain),
         Err(error) => return Err(unreadable(rt.alloc(), dir, &error)),
     };
-    match highest(Named::Chain, &chains) {
+    match highest(EntryKind::Chain, &chains) {
         Some(chain) => last_in(rt, dir, chain),
-        None => Ok(Last::NoChain),
+        None => Ok(LastChain::NoChain),
     }
 }
 
 /// Reads the last file of a chain, over those in front of it that it is taken from.
-fn last_in<R: Files + AllocGlobal>(rt: &R, dir: &str, chain: u32) -> Result<Last, CacheFault>
+fn last_in<R: Files + AllocGlobal>(
+    rt: &R,
+    dir: &str,
+    chain: u32,
+) -> Result<LastChain, CacheReadFault>
     requires { chain ≤ most }
-    ensures last { IfOk result IsLast }
-    ensures startless { IfErr result (IsStartless dir.now) }
+    ensures last { IfOk result IsLastChain }
+    ensures unread { IfErr result (IsUnreadableCache dir.now) }
 {
     let folder = chain_path(rt.alloc(), dir, chain)?;
     let sessions = match names_in(rt, folder.as_str()) {
         Ok(names) => names,
         Err(error) => return Err(unreadable(rt.alloc(), dir, &error)),
     };
-    let numbers = numbers_in(rt.alloc(), Named::Session, &sessions)?;
+    let numbers = numbers_in(rt.alloc(), EntryKind::Session, &sessions)?;
     match numbers.split_last() {
         Some((last, front)) => read_last(rt, dir, chain, *last, front),
-        None => Ok(Last::NoSession(chain)),
+        None => Ok(LastChain::NoSession(chain)),
     }
 }
 
@@ -78,27 +69,27 @@ fn read_last<R: Files + AllocGlobal>(
     chain: u32,
     number: u32,
     front: &[u32],
-) -> Result<Last, CacheFault>
+) -> Result<LastChain, CacheReadFault>
     requires chain { chain ≤ most }
     requires number { number ≤ most }
     requires front { All (λ n. n ≤ most) front.now }
-    ensures last { IfOk result IsLast }
-    ensures startless { IfErr result (IsStartless dir.now) }
+    ensures last { IfOk result IsLastChain }
+    ensures unread { IfErr result (IsUnreadableCache dir.now) }
 {
-    let place = Place { chain, number };
+    let place = SessionPlace { chain, number };
     let bytes = match bytes_at(rt, dir, place) {
         Ok(bytes) => bytes,
         Err(fault) => return Err(fault),
     };
     if !is_of_form_2(&bytes) {
-        return Ok(Last::File(place, read(rt.alloc(), &bytes)));
+        return Ok(LastChain::File(place, read(rt.alloc(), &bytes)));
     }
     match read_front(rt, dir, chain, front) {
-        Ok(Front::Read(past)) => Ok(Last::File(
+        Ok(ChainFront::Read(past)) => Ok(LastChain::File(
             place,
             read_after(rt.alloc(), past.as_ref(), &bytes),
         )),
-        Ok(Front::Ended(place, read)) => Ok(Last::File(place, read)),
+        Ok(ChainFront::Ended(place, read)) => Ok(LastChain::File(place, read)),
         Err(fault) => Err(fault),
     }
 }
@@ -119,11 +110,11 @@ fn is_of_form_2(bytes: &[u8]) -> bool {
 
 /// What was read of the files in front of the last one.
 #[derive(Drop)]
-pub enum Front {
+pub enum ChainFront {
     /// The session that the last one is read over, where there is one.
     Read(Option<Session>),
     /// The file at this place, which no session follows, with this result.
-    Ended(Place, Result<Session, FileFault>),
+    Ended(SessionPlace, Result<Session, FileFault>),
 }
 
 /// The index of the last of these sessions of a chain whose file isn't of form 2, and stands alone therefore; the first
@@ -133,16 +124,16 @@ fn first_to_read<R: Files + AllocGlobal>(
     dir: &str,
     chain: u32,
     numbers: &[u32],
-) -> Result<usize, CacheFault>
+) -> Result<usize, CacheReadFault>
     requires chain { chain ≤ most }
     requires numbers { All (λ n. n ≤ most) numbers.now }
     ensures within { IfOk result (λ first. first ≤ length numbers.now) }
-    ensures startless { IfErr result (IsStartless dir.now) }
+    ensures unread { IfErr result (IsUnreadableCache dir.now) }
 {
     let mut first = numbers.len();
     while first > 0 {
         first -= 1;
-        let place = Place {
+        let place = SessionPlace {
             chain,
             number: numbers[first],
         };
@@ -159,10 +150,10 @@ fn first_to_read<R: Files + AllocGlobal>(
 fn form_at<R: Files + AllocGlobal>(
     rt: &R,
     dir: &str,
-    place: Place,
-) -> Result<Option<Form>, CacheFault>
-    requires { IsPlace place }
-    ensures { IfErr result (IsStartless dir.now) }
+    place: SessionPlace,
+) -> Result<Option<Form>, CacheReadFault>
+    requires { IsSessionPlace place }
+    ensures { IfErr result (IsUnreadableCache dir.now) }
 {
     let alloc = rt.alloc();
     let path = place.path(alloc, dir)?;
@@ -191,11 +182,11 @@ fn read_front<R: Files + AllocGlobal>(
     dir: &str,
     chain: u32,
     numbers: &[u32],
-) -> Result<Front, CacheFault>
+) -> Result<ChainFront, CacheReadFault>
     requires chain { chain ≤ most }
     requires numbers { All (λ n. n ≤ most) numbers.now }
-    ensures front { IfOk result IsFront }
-    ensures startless { IfErr result (IsStartless dir.now) }
+    ensures front { IfOk result IsChainFront }
+    ensures unread { IfErr result (IsUnreadableCache dir.now) }
 {
     let first = match first_to_read(rt, dir, chain, numbers) {
         Ok(first) => first,
@@ -203,7 +194,7 @@ fn read_front<R: Files + AllocGlobal>(
     };
     let mut past = None;
     for number in &numbers[first..] {
-        let place = Place {
+        let place = SessionPlace {
             chain,
             number: *number,
         };
@@ -213,16 +204,20 @@ fn read_front<R: Files + AllocGlobal>(
         };
         match read_after(rt.alloc(), past.as_ref(), &bytes) {
             Ok(session) if session.number() == place.number => past = Some(session),
-            read => return Ok(Front::Ended(place, read)),
+            read => return Ok(ChainFront::Ended(place, read)),
         }
     }
-    Ok(Front::Read(past))
+    Ok(ChainFront::Read(past))
 }
 
 /// The bytes of the file at this place.
-fn bytes_at<R: Files + AllocGlobal>(rt: &R, dir: &str, place: Place) -> Result<Vec<u8>, CacheFault>
-    requires { IsPlace place }
-    ensures { IfErr result (IsStartless dir.now) }
+fn bytes_at<R: Files + AllocGlobal>(
+    rt: &R,
+    dir: &str,
+    place: SessionPlace,
+) -> Result<Vec<u8>, CacheReadFault>
+    requires { IsSessionPlace place }
+    ensures { IfErr result (IsUnreadableCache dir.now) }
 {
     let alloc = rt.alloc();
     let path = place.path(alloc, dir)?;
@@ -247,15 +242,15 @@ fn names_in<R: Files + AllocGlobal>(rt: &R, folder: &str) -> io::Result<Vec<Stri
 }
 
 /// Why a folder or a file isn't read.
-fn unreadable(alloc: Global, path: &str, error: &io::Error) -> CacheFault
-    ensures { IsUnread path.now result }
+fn unreadable(alloc: Global, path: &str, error: &io::Error) -> CacheReadFault
+    ensures { IsUnreadable path.now result }
 {
     if error.kind() == ErrorKind::OutOfMemory {
-        return CacheFault::OutOfMemory;
+        return CacheReadFault::OutOfMemory;
     }
     match String::from_str(alloc, path) {
-        Ok(path) => CacheFault::CannotRead(path),
-        Err(_) => CacheFault::OutOfMemory,
+        Ok(path) => CacheReadFault::CannotRead(path),
+        Err(_) => CacheReadFault::OutOfMemory,
     }
 }
 
@@ -265,11 +260,11 @@ pub fn write_file<R: Files + AllocGlobal, T: Threads>(
     rt: &R,
     threads: &T,
     dir: &str,
-    place: Place,
+    place: SessionPlace,
     session: &Session,
     workers: usize,
-) -> Result<(), CacheFault>
-    requires { IsPlace place }
+) -> Result<(), CacheWriteFault>
+    requires { IsSessionPlace place }
     ensures { IfErr result (IsUnwritten dir.now place) }
 {
     let alloc = rt.alloc();
@@ -284,8 +279,8 @@ pub fn write_file<R: Files + AllocGlobal, T: Threads>(
         workers,
     ) {
         Ok(()) => Ok(()),
-        Err(error) if error.kind() == ErrorKind::OutOfMemory => Err(CacheFault::OutOfMemory),
-        Err(_) => Err(CacheFault::CannotWrite(path)),
+        Err(error) if error.kind() == ErrorKind::OutOfMemory => Err(CacheWriteFault::OutOfMemory),
+        Err(_) => Err(CacheWriteFault::CannotWrite(path)),
     }
 }
 

@@ -8,9 +8,9 @@ mod names;
 mod place;
 mod start;
 
-pub use fault::CacheFault;
+pub use fault::{CacheReadFault, CacheWriteFault};
 pub use filling::write_to;
-pub use folders::{find_last, find_start, write_file};
-pub use names::{Named, highest};
-pub use place::Place;
-pub use start::{Last, Note, Start, Why, start_behind};
+pub use folders::{find_last, write_file};
+pub use names::{EntryKind, highest};
+pub use place::SessionPlace;
+pub use start::{LastChain, NotFollowed, Note, Start, start_behind};

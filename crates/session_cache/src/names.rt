@@ -2,7 +2,7 @@
 ghost use Rattle.std.specs.Prelude.{◌≡◌, ◌≤◌, ◌++◌, ◌∷◌, [], ℕ, map, string_bytes, All, IfOk, IfSome, Some, OnOk, ◌⊎◌, ◌↔◌, ◌-◌, List, IsTrue, codes};
 ghost use Rattle.std.specs.List.Sorted.{IsSorted};
 ghost use Rattle.std.specs.Ordering.{nat_cmp};
-ghost use Rattle.session_cache.specs.Names.{most, four_digits, name_of, IsDigit, AreFour, AreNumbers, IsSpelled, IsHighest};
+ghost use Rattle.session_cache.specs.Names.{most, four_digits, entry_name, IsDigit, AreFour, AreNumbers, IsSpelled, IsHighest};
 
 use sessions::Session;
 use std::alloc::{AllocError, Global};
@@ -12,7 +12,7 @@ pub(crate) const MOST: u32 = Session::MOST;
 
 /// What has a number in a cache.
 #[derive(Clone, Copy, Debug, PartialEq, Eq)]
-pub enum Named {
+pub enum EntryKind {
     /// A chain: a folder `c0000` to `c9999`.
     Chain,
     /// A session: a file `s0000.mjrg` to `s9999.mjrg` in the folder of its chain.
@@ -20,7 +20,7 @@ pub enum Named {
 }
 
 /// The greatest number that one of these names has. Other names are passed over.
-pub fn highest(what: Named, names: &[String]) -> Option<u32>
+pub fn highest(what: EntryKind, names: &[String]) -> Option<u32>
     ensures { IsHighest what (map string_bytes names.now) result }
 {
     let mut highest = None;
@@ -33,7 +33,7 @@ pub fn highest(what: Named, names: &[String]) -> Option<u32>
 /// The numbers that these names have, in order. Other names are passed over.
 pub(crate) fn numbers_in(
     alloc: Global,
-    what: Named,
+    what: EntryKind,
     names: &[String],
 ) -> Result<Vec<u32>, AllocError>
     ensures numbers { IfOk result
@@ -50,7 +50,7 @@ pub(crate) fn numbers_in(
 }
 
 /// Adds the number of a name, if it has one.
-fn add_number(what: Named, numbers: &mut Vec<u32>, name: &[u8]) -> Result<(), AllocError>
+fn add_number(what: EntryKind, numbers: &mut Vec<u32>, name: &[u8]) -> Result<(), AllocError>
     ensures { (front : List (List ℕ)) → AreNumbers what front numbers.old.items
         → OnOk result (AreNumbers what (front ++ name.now ∷ []) numbers.new.items) }
 {
@@ -62,7 +62,7 @@ fn add_number(what: Named, numbers: &mut Vec<u32>, name: &[u8]) -> Result<(), Al
 
 /// The greater of a number and that of a name, if the name has one.
 #[tactic(auto, using(crate::proofs::NameRules::raised, crate::proofs::NameRules::passed))]
-fn higher(what: Named, highest: Option<u32>, name: &[u8]) -> Option<u32>
+fn higher(what: EntryKind, highest: Option<u32>, name: &[u8]) -> Option<u32>
     ensures { (front : List (List ℕ)) → IsHighest what front highest
         → IsHighest what (front ++ name.now ∷ []) result }
 {
@@ -85,12 +85,12 @@ fn greater(highest: Option<u32>, number: u32) -> u32
 }
 
 /// The number in this name, or `None` where it is no such name.
-fn number_in(what: Named, name: &[u8]) -> Option<u32>
-    ensures { IsSpelled (name_of what) name.now result }
+fn number_in(what: EntryKind, name: &[u8]) -> Option<u32>
+    ensures { IsSpelled (entry_name what) name.now result }
 {
     match what {
-        Named::Chain => parse_number(name.strip_prefix(b"c".as_slice())?),
-        Named::Session => number_before(name.strip_prefix(b"s".as_slice())?),
+        EntryKind::Chain => parse_number(name.strip_prefix(b"c".as_slice())?),
+        EntryKind::Session => number_before(name.strip_prefix(b"s".as_slice())?),
     }
 }
 
@@ -151,16 +151,16 @@ fn digit(byte: u8) -> u32
 }
 
 /// Appends the name of a number.
-pub(crate) fn push_name(text: &mut String, what: Named, number: u32) -> Result<(), AllocError>
+pub(crate) fn push_name(text: &mut String, what: EntryKind, number: u32) -> Result<(), AllocError>
     requires { number ≤ most }
-    ensures { OnOk result (string_bytes text.new ≡ string_bytes text.old ++ name_of what number) }
+    ensures { OnOk result (string_bytes text.new ≡ string_bytes text.old ++ entry_name what number) }
 {
     match what {
-        Named::Chain => {
+        EntryKind::Chain => {
             text.push_str("c")?;
             push_digits(text, number)
         }
-        Named::Session => {
+        EntryKind::Session => {
             text.push_str("s")?;
             push_digits(text, number)?;
             text.push_str(".mjrg")

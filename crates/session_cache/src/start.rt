@@ -1,10 +1,10 @@
 //! Where the next session begins.
 ghost use Rattle.std.specs.Prelude.{◌≡◌, ◌≤◌, None, IfOk};
 ghost use Rattle.session_cache.specs.Names.{most};
-ghost use Rattle.session_cache.specs.Starts.{IsLast, IsPlace, IsStart, IsStartBehind, IsStartBehindFile, BeginsChain, BeginsNext};
+ghost use Rattle.session_cache.specs.Starts.{IsLastChain, IsSessionPlace, IsStart, IsStartBehind, IsStartBehindFile, BeginsChain, BeginsNext};
 
 use crate::names::MOST;
-use crate::place::Place;
+use crate::place::SessionPlace;
 use session_file::FileFault;
 use sessions::Session;
 use std::alloc::{AllocError, Global};
@@ -12,7 +12,7 @@ use std::sync::Arc;
 
 /// Why no session follows the one in a file.
 #[derive(Clone, Copy, Debug, PartialEq, Eq)]
-pub enum Why {
+pub enum NotFollowed {
     /// The bytes are no session's file.
     Refused(FileFault),
     /// The session has another number than the file's name.
@@ -24,8 +24,8 @@ pub enum Why {
 /// What is said of a session's file that no session follows.
 #[derive(Clone, Copy, Debug, PartialEq, Eq)]
 pub struct Note {
-    pub place: Place,
-    pub why: Why,
+    pub place: SessionPlace,
+    pub why: NotFollowed,
 }
 
 /// Where the next session of a cache begins.
@@ -34,34 +34,34 @@ pub struct Start {
     /// The session that it follows; none at the beginning of a chain.
     pub past: Option<Arc<Session>>,
     /// The place of its file; none past the last chain.
-    pub place: Option<Place>,
+    pub place: Option<SessionPlace>,
     /// What is said of the file that it doesn't follow.
     pub note: Option<Note>,
 }
 
 /// What was read of a cache's last chain.
 #[derive(Drop)]
-pub enum Last {
+pub enum LastChain {
     /// There is no chain.
     NoChain,
     /// The chain of this number, the greatest one, has no session.
     NoSession(u32),
     /// The file at this place was read, with this result. It is the one of the greatest number in the chain of the greatest
     /// number, or one before it that no session follows.
-    File(Place, Result<Session, FileFault>),
+    File(SessionPlace, Result<Session, FileFault>),
 }
 
 /// Where the next session of a cache begins, by what was read of its last chain: in that chain, in the first one where
 /// there is none, or in the next one behind a file that can't be continued.
-pub fn start_behind(alloc: Global, last: Last) -> Result<Start, AllocError>
-    requires { IsLast last }
+pub fn start_behind(alloc: Global, last: LastChain) -> Result<Start, AllocError>
+    requires { IsLastChain last }
     ensures behind { IfOk result (IsStartBehind last) }
     ensures start { IfOk result IsStart }
 {
     match last {
-        Last::NoChain => Ok(first_of(0)),
-        Last::NoSession(chain) => Ok(first_of(chain)),
-        Last::File(place, read) => start_at(alloc, place, read),
+        LastChain::NoChain => Ok(first_of(0)),
+        LastChain::NoSession(chain) => Ok(first_of(chain)),
+        LastChain::File(place, read) => start_at(alloc, place, read),
     }
 }
 
@@ -73,7 +73,7 @@ fn first_of(chain: u32) -> Start
 {
     Start {
         past: None,
-        place: Some(Place { chain, number: 0 }),
+        place: Some(SessionPlace { chain, number: 0 }),
         note: None,
     }
 }
@@ -81,35 +81,35 @@ fn first_of(chain: u32) -> Start
 /// Where the next session begins behind a file at this place, by what was read of it.
 fn start_at(
     alloc: Global,
-    last: Place,
+    last: SessionPlace,
     read: Result<Session, FileFault>,
 ) -> Result<Start, AllocError>
-    requires { IsPlace last }
+    requires { IsSessionPlace last }
     ensures behind { IfOk result (IsStartBehindFile last read) }
     ensures start { IfOk result IsStart }
 {
     match read {
         Ok(session) => start_after(alloc, last, session),
         Err(FileFault::OutOfMemory) => Err(AllocError),
-        Err(fault) => Ok(begin_next(last, Why::Refused(fault))),
+        Err(fault) => Ok(begin_next(last, NotFollowed::Refused(fault))),
     }
 }
 
 /// Where the next session begins behind a session that was read.
-fn start_after(alloc: Global, last: Place, session: Session) -> Result<Start, AllocError>
-    requires { IsPlace last }
+fn start_after(alloc: Global, last: SessionPlace, session: Session) -> Result<Start, AllocError>
+    requires { IsSessionPlace last }
     ensures behind { IfOk result (IsStartBehindFile last (Ok session)) }
     ensures start { IfOk result IsStart }
 {
     if session.number() != last.number {
-        return Ok(begin_next(last, Why::Number));
+        return Ok(begin_next(last, NotFollowed::Number));
     }
     if last.number >= MOST {
-        return Ok(begin_next(last, Why::Full));
+        return Ok(begin_next(last, NotFollowed::Full));
     }
     Ok(Start {
         past: Some(Arc::new(alloc, session)?),
-        place: Some(Place {
+        place: Some(SessionPlace {
             chain: last.chain,
             number: last.number + 1,
         }),
@@ -118,13 +118,13 @@ fn start_after(alloc: Global, last: Place, session: Session) -> Result<Start, Al
 }
 
 /// The beginning of the next chain, with what is said of the file that can't be continued.
-fn begin_next(last: Place, why: Why) -> Start
-    requires { IsPlace last }
+fn begin_next(last: SessionPlace, why: NotFollowed) -> Start
+    requires { IsSessionPlace last }
     ensures next { BeginsNext last why result }
     ensures start { IsStart result }
 {
     let place = if last.chain < MOST {
-        Some(Place {
+        Some(SessionPlace {
             chain: last.chain + 1,
             number: 0,
         })

@@ -9,17 +9,19 @@ use Rattle.item_ids.specs.declared.key.Key.{Key}
 use Rattle.item_ids.specs.declared.kind.Kind.{Kind}
 use Rattle.item_ids.specs.Kinds.{number_of}
 use Rattle.item_ids.specs.Keys.{kind_of}
+use Rattle.item_ids.specs.Inputs.{is_input, rank}
+use Rattle.item_ids.specs.KeyLists.{AreLower}
 use Rattle.fingerprint.specs.Prints.{print_of}
 use Rattle.sessions.specs.declared.mark.Mark.{Mark}
 use Rattle.sessions.specs.declared.mark.Mark.TheVariants as marks
-use Rattle.sessions.specs.Marks.{is_input, is_input_mark}
-use Rattle.sessions.specs.Sessions.{Entry, SessionValue, FitsBehind, IsSession, AreBelow, entry_at, past_entry, rank}
+use Rattle.sessions.specs.Marks.{is_input_mark}
+use Rattle.sessions.specs.Sessions.{Entry, SessionValue, FitsBehind, IsSession, entry_at, past_entry}
 use Rattle.sessions.proofs.EntryRules.{found_at, has_key, has_lower, has_edge, has_record, some_map}
 use Rattle.graph_rules.specs.Settings.{has_kind}
 use Rattle.session_causes.specs.declared.cause.Cause.{Cause}
 use Rattle.session_causes.specs.declared.cause.Cause.TheVariants.{New, Changed, Gone, Same, Green, Red, OtherProfile, NothingChanged}
-use Rattle.session_causes.specs.Causes.{IsOfEither, IsOtherInput, IsTold, IsWhy, first_red, have_same_print, is_red, mark_at, red_key}
-use Rattle.session_causes.specs.Parts.{IsRunCause, fresh_cause, is_told}
+use Rattle.session_causes.specs.Causes.{IsOfEither, IsOtherInput, IsExplained, IsWhy, first_red, have_same_print, is_red, mark_at, red_key}
+use Rattle.session_causes.specs.Parts.{IsRunCause, fresh_cause, is_explained}
 
 -- ---- kinds
 
@@ -94,10 +96,10 @@ module _ (was : Option SessionValue) (now : SessionValue) (session : IsSession n
   is_there : (mark : Mark) → mark_at now q ≡ Some mark → IsOfEither was now q
   is_there mark is = let r = some_map (λ (x : Entry). x.mark) (entry_at now q) mark is in inr (some_is (entry_at now q) r.0 r.1)
 
-  other_input : mark_at now q ≡ Some marks.Input → is_red was now q ≡ true → IsTold was now q
+  other_input : mark_at now q ≡ Some marks.Input → is_red was now q ≡ true → IsExplained was now q
   other_input is red = inr (is_there marks.Input is, sym (marked marks.Input is), red)
 
-  pub told_is : (cause : Cause) → IsWhy was now crossing q cause → is_told (kind_of q) cause ≡ true → IsTold was now q
+  pub told_is : (cause : Cause) → IsWhy was now crossing q cause → is_explained (kind_of q) cause ≡ true → IsExplained was now q
   told_is New why t =
       elim why.1 [
         | inl input ↦ other_input input (ap (λ (o : Option Entry). not (have_same_print o (entry_at now q))) why.0)
@@ -112,11 +114,11 @@ module _ (was : Option SessionValue) (now : SessionValue) (session : IsSession n
   told_is OtherProfile why t = inl why.0
   told_is NothingChanged why t = inl why.0
 
-  not_told : (mark : Mark) → mark_at now q ≡ Some mark → (mark ≡ marks.Executed → ⊥) → (IsOtherInput was now q → ⊥) → IsTold was now q → ⊥
+  not_told : (mark : Mark) → mark_at now q ≡ Some mark → (mark ≡ marks.Executed → ⊥) → (IsOtherInput was now q → ⊥) → IsExplained was now q → ⊥
   not_told mark is other none (inl run) = other (same_Some mark marks.Executed (sym is ∙ run))
   not_told mark is other none (inr input) = none input
 
-  pub untold_is : (cause : Cause) → IsWhy was now crossing q cause → is_told (kind_of q) cause ≡ false → IsTold was now q → ⊥
+  pub untold_is : (cause : Cause) → IsWhy was now crossing q cause → is_explained (kind_of q) cause ≡ false → IsExplained was now q → ⊥
   untold_is New why t told = absurd cc
   untold_is Changed why t told = absurd cc
   untold_is Gone why t (inl run) = absurd (let e : mark_at now q ≡ None = ap (option_map (λ (x : Entry). x.mark)) why.1 in none-some marks.Executed (sym e ∙ run))
@@ -140,7 +142,7 @@ red_leads (Some s) session now crossing q (Red k) e why is =
     let had = why.1.0 in
     let read : Contains had.reads e = key_found (is_red (Some s) now) had.reads e (why.1.2 ∙ is) in
     let there = has_edge s session q had why.1.1 e read in
-    let lower : AreBelow q had.reads = has_lower s session q had why.1.1 in
+    let lower : AreLower q had.reads = has_lower s session q had why.1.1 in
     (inl (some_is (entry_at s e) there.0 there.1), All-contains (λ (k : Key). rank k < rank q) had.reads e (All-from_recursion (λ (k : Key). rank k < rank q) had.reads lower) read)
 red_leads was session now crossing q New e why is = absurd (none-some e is)
 red_leads was session now crossing q Changed e why is = absurd (none-some e is)

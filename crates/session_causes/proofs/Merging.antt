@@ -10,12 +10,12 @@ use Rattle.std.proofs.lemmas.List.{append-nil, append_assoc, drop_more, map-appe
 use Rattle.item_ids.specs.declared.key.Key.{Key}
 use Rattle.item_ids.specs.Keys.{key_cmp, key_total}
 use Rattle.item_ids.proofs.Apart.{key_exact}
+use Rattle.item_ids.proofs.Lists.{all_map}
 use Rattle.mj_answer.specs.Order.{IsAscendingBy}
 use Rattle.mj_answer.proofs.Alike.{Contains-cases, Contains-first, Contains-later}
-use Rattle.sessions.proofs.Lists.{all_for}
 use Rattle.graph_rules.specs.Graphs.{KeyBefore}
-use Rattle.session_causes.specs.declared.keys.Step.{Step}
-use Rattle.session_causes.specs.Parts.{IsStep, Passes, PassesLesser}
+use Rattle.session_causes.specs.declared.keys.MergeStep.{MergeStep}
+use Rattle.session_causes.specs.Parts.{IsMergeStep, PassesKey, PassesLesserKey}
 
 -- the key comes before the first of these, if there is one
 abbrev pub IsBeforeFirst : Key → List Key → Type 0
@@ -38,7 +38,7 @@ all_merge P _ _ _ (both x xs ys zs m) h k = (h.0, all_merge P xs ys zs m h.1 k.1
 
 before_all : (x : Key) (ys : List Key) → IsBeforeFirst x ys → IsAscendingBy KeyBefore ys → AllByRecursion (KeyBefore x) ys
 before_all x [] below up = tt
-before_all x (y ∷ ys) below up = (below, all_for (KeyBefore y) (KeyBefore x) ys (λ z l. key_total.trans x y z below l) up.0)
+before_all x (y ∷ ys) below up = (below, all_map (KeyBefore y) (KeyBefore x) (λ z l. key_total.trans x y z below l) ys up.0)
 
 pub merge_ascends : (xs ys zs : List Key) → IsMerge xs ys zs → IsAscendingBy KeyBefore xs → IsAscendingBy KeyBefore ys → IsAscendingBy KeyBefore zs
 merge_ascends _ _ _ none up vp = tt
@@ -109,13 +109,13 @@ module _ (ks js : List Key) (i j : ℕ) (zs : List Key) where
   before_some : (x y : Key) (ys rest : List Key) → ys ≡ y ∷ rest → KeyBefore x y → IsBeforeFirst x ys
   before_some x y ys rest e l = subst (IsBeforeFirst x) (sym e) l
 
-  passed : (step : Step) (key : Key) (p n : ℕ) → Passes key p n step → (MergeFrom ks js (i + p) (j + n) zs → MergeFrom ks js i j (key ∷ zs))
+  passed : (step : MergeStep) (key : Key) (p n : ℕ) → PassesKey key p n step → (MergeFrom ks js (i + p) (j + n) zs → MergeFrom ks js i j (key ∷ zs))
       → MergeFrom ks js (i + step.past) (j + step.now) zs → MergeFrom ks js i j (step.key.now ∷ zs)
   passed step key p n is f m =
       subst (λ (k : Key). MergeFrom ks js i j (k ∷ zs)) (sym is.0)
       (f (subst (λ (b : ℕ). MergeFrom ks js (i + p) (j + b) zs) is.2 (subst (λ (a : ℕ). MergeFrom ks js (i + a) (j + step.now) zs) is.1 m)))
 
-  by_order : (step : Step) (x y : Key) → slice_get ks i ≡ Some x → slice_get js j ≡ Some y → (o : Ordering) → key_cmp x y ≡ o → PassesLesser x y o step
+  by_order : (step : MergeStep) (x y : Key) → slice_get ks i ≡ Some x → slice_get js j ≡ Some y → (o : Ordering) → key_cmp x y ≡ o → PassesLesserKey x y o step
       → MergeFrom ks js (i + step.past) (j + step.now) zs → MergeFrom ks js i j (step.key.now ∷ zs)
   by_order step x y is there Less o passes m =
       passed step x 1 0 passes (take_left x is (before_some x y (drop j js) (drop (j + 1) js) (drop_some js j y there) o)) m
@@ -125,7 +125,7 @@ module _ (ks js : List Key) (i j : ℕ) (zs : List Key) where
       let l : KeyBefore y x = key_total.antisymm y x ∙ ap ordering_reverse o in
       passed step y 0 1 passes (take_right y there (before_some y x (drop i ks) (drop (i + 1) ks) (drop_some ks i x is) l)) m
 
-  by_heads : (step : Step) (a b : Option Key) → slice_get ks i ≡ a → slice_get js j ≡ b → IsStep a b (Some step)
+  by_heads : (step : MergeStep) (a b : Option Key) → slice_get ks i ≡ a → slice_get js j ≡ b → IsMergeStep a b (Some step)
       → MergeFrom ks js (i + step.past) (j + step.now) zs → MergeFrom ks js i j (step.key.now ∷ zs)
   by_heads step None None is there passes m = absurd (none-some step (sym passes))
   by_heads step (Some x) None is there passes m =
@@ -134,14 +134,14 @@ module _ (ks js : List Key) (i j : ℕ) (zs : List Key) where
       passed step y 0 1 passes (take_right y there (before_none y (drop i ks) (drop_none ks i is))) m
   by_heads step (Some x) (Some y) is there passes m = by_order step x y is there (key_cmp x y) refl passes m
 
-  pub step_more : (step : Step) → IsStep (slice_get ks i) (slice_get js j) (Some step)
+  pub step_more : (step : MergeStep) → IsMergeStep (slice_get ks i) (slice_get js j) (Some step)
       → MergeFrom ks js (i + step.past) (j + step.now) zs → MergeFrom ks js i j (step.key.now ∷ zs)
   step_more step passes m = by_heads step (slice_get ks i) (slice_get js j) refl refl passes m
 
-pub no_step : (ks js : List Key) (i j : ℕ) → IsStep (slice_get ks i) (slice_get js j) None → MergeFrom ks js i j []
+pub no_step : (ks js : List Key) (i j : ℕ) → IsMergeStep (slice_get ks i) (slice_get js j) None → MergeFrom ks js i j []
 no_step ks js i j end = by_heads (slice_get ks i) (slice_get js j) refl refl end
   where
-    by_heads : (a b : Option Key) → slice_get ks i ≡ a → slice_get js j ≡ b → IsStep a b None → MergeFrom ks js i j []
+    by_heads : (a b : Option Key) → slice_get ks i ≡ a → slice_get js j ≡ b → IsMergeStep a b None → MergeFrom ks js i j []
     by_heads None None is there end =
         subst (λ (xs : List Key). IsMerge xs (drop j js) []) (sym (drop_none ks i is))
         (subst (λ (ys : List Key). IsMerge [] ys []) (sym (drop_none js j there)) none)

@@ -14,36 +14,36 @@ use Rattle.sessions.specs.declared.mark.Mark.TheVariants.{Executed}
 use Rattle.sessions.specs.Sessions.{Entry, SessionValue, IsSession, entry_at}
 use Rattle.graph_rules.specs.Graphs.{KeyBefore}
 use Rattle.session_causes.specs.declared.cause.Why.{Why}
-use Rattle.session_causes.specs.Causes.{AreWhys, IsOfEither, IsRightWhy, IsTold}
-use Rattle.session_causes.specs.Parts.{AreKeysOfEither, is_told, told_part}
+use Rattle.session_causes.specs.Causes.{AreWhys, IsOfEither, IsRightWhy, IsExplained}
+use Rattle.session_causes.specs.Parts.{AreKeysOfEither, is_explained, explained_part}
 use Rattle.session_causes.proofs.CauseRules.{told_is, untold_is}
 
 -- a why for each of the keys that is told of
 pub data IsTelling (was : Option SessionValue) (now : SessionValue) (crossing : List Kind) : List Key → List Why → Type 0 where
   none : IsTelling was now crossing [] []
-  untold : (q : Key) (keys : List Key) (whys : List Why) → (IsTold was now q → ⊥) → IsTelling was now crossing keys whys → IsTelling was now crossing (q ∷ keys) whys
-  told : (q : Key) (why : Why) (keys : List Key) (whys : List Why) → why.key.now ≡ q → IsTold was now q → IsRightWhy was now crossing why → IsTelling was now crossing keys whys
+  untold : (q : Key) (keys : List Key) (whys : List Why) → (IsExplained was now q → ⊥) → IsTelling was now crossing keys whys → IsTelling was now crossing (q ∷ keys) whys
+  told : (q : Key) (why : Why) (keys : List Key) (whys : List Why) → why.key.now ≡ q → IsExplained was now q → IsRightWhy was now crossing why → IsTelling was now crossing keys whys
       → IsTelling was now crossing (q ∷ keys) (why ∷ whys)
 
 module _ (was : Option SessionValue) (now : SessionValue) (crossing : List Kind) where
   abbrev Tells : List Key → List Why → Type 0
   Tells keys whys = IsTelling was now crossing keys whys
 
-  pub untold_more : (keys : List Key) (whys : List Why) (q : Key) → (IsTold was now q → ⊥) → Tells keys whys → Tells (keys ++ q ∷ []) whys
+  pub untold_more : (keys : List Key) (whys : List Why) (q : Key) → (IsExplained was now q → ⊥) → Tells keys whys → Tells (keys ++ q ∷ []) whys
   untold_more _ _ q silent none = untold q [] [] silent none
   untold_more _ _ q silent (untold k keys whys other t) = untold k (keys ++ q ∷ []) whys other (untold_more keys whys q silent t)
   untold_more _ _ q silent (told k why keys whys is tells right t) = told k why (keys ++ q ∷ []) whys is tells right (untold_more keys whys q silent t)
 
-  pub told_more : (keys : List Key) (whys : List Why) (q : Key) (w : Why) → w.key.now ≡ q → IsTold was now q → IsRightWhy was now crossing w → Tells keys whys
+  pub told_more : (keys : List Key) (whys : List Why) (q : Key) (w : Why) → w.key.now ≡ q → IsExplained was now q → IsRightWhy was now crossing w → Tells keys whys
       → Tells (keys ++ q ∷ []) (whys ++ w ∷ [])
   told_more _ _ q w e y r none = told q w [] [] e y r none
   told_more _ _ q w e y r (untold k keys whys other t) = untold k (keys ++ q ∷ []) (whys ++ w ∷ []) other (told_more keys whys q w e y r t)
   told_more _ _ q w e y r (told k why keys whys is tells right t) = told k why (keys ++ q ∷ []) (whys ++ w ∷ []) is tells right (told_more keys whys q w e y r t)
 
-  each : (keys : List Key) (whys : List Why) → Tells keys whys → AllByRecursion (λ why. IsTold was now why.key.now × IsRightWhy was now crossing why) whys
+  each : (keys : List Key) (whys : List Why) → Tells keys whys → AllByRecursion (λ why. IsExplained was now why.key.now × IsRightWhy was now crossing why) whys
   each _ _ none = tt
   each _ _ (untold k keys whys other t) = each keys whys t
-  each _ _ (told k why keys whys is tells right t) = ((subst (IsTold was now) (sym is) tells, right), each keys whys t)
+  each _ _ (told k why keys whys is tells right t) = ((subst (IsExplained was now) (sym is) tells, right), each keys whys t)
 
   behind : (x : Key) (keys : List Key) (whys : List Why) → Tells keys whys → AllByRecursion (KeyBefore x) keys → AllByRecursion (λ why. KeyBefore x why.key.now) whys
   behind x _ _ none h = tt
@@ -62,11 +62,11 @@ module _ (was : Option SessionValue) (now : SessionValue) (crossing : List Kind)
   later : (w : Why) (whys : List Why) (q : Key) → HasWhy whys q → HasWhy (w ∷ whys) q
   later w whys q h = (h.0, Contains-later w whys h.0 h.1, h.2)
 
-  all : (keys : List Key) (whys : List Why) → Tells keys whys → (q : Key) → Contains keys q → IsTold was now q → HasWhy whys q
+  all : (keys : List Key) (whys : List Why) → Tells keys whys → (q : Key) → Contains keys q → IsExplained was now q → HasWhy whys q
   all _ _ none q has tells = absurd (omega (arith, has.1))
   all _ _ (untold k keys whys other t) q has tells =
       elim (Contains-cases k keys q has) [
-        | inl e ↦ absurd (other (subst (IsTold was now) (sym e) tells))
+        | inl e ↦ absurd (other (subst (IsExplained was now) (sym e) tells))
         | inr i ↦ all keys whys t q i tells
       ]
   all _ _ (told k why keys whys is _ right t) q has tells =
@@ -79,7 +79,7 @@ module _ (was : Option SessionValue) (now : SessionValue) (crossing : List Kind)
   marked_there None mark e = absurd (none-some mark e)
   marked_there (Some r) mark e = refl
 
-  either : (q : Key) → IsTold was now q → IsOfEither was now q
+  either : (q : Key) → IsExplained was now q → IsOfEither was now q
   either q (inl run) = inr (marked_there (entry_at now q) Executed run)
   either q (inr input) = input.0
 
@@ -91,21 +91,21 @@ module _ (was : Option SessionValue) (now : SessionValue) (crossing : List Kind)
   }
 
   -- one more key
-  telling_more : IsSession now → (keys : List Key) (whys : List Why) (q : Key) (w : Why) → w.key.now ≡ q → IsRightWhy was now crossing w → Tells keys whys → Tells (keys ++ q ∷ []) (whys ++ told_part w)
+  telling_more : IsSession now → (keys : List Key) (whys : List Why) (q : Key) (w : Why) → w.key.now ≡ q → IsRightWhy was now crossing w → Tells keys whys → Tells (keys ++ q ∷ []) (whys ++ explained_part w)
   telling_more session keys whys q w e right t =
-      (elim (is_told (kind_of w.key.now) w.cause) as (λ b. is_told (kind_of w.key.now) w.cause ≡ b → Tells (keys ++ q ∷ []) (whys ++ (if b then w ∷ [] else []))) [
-        | true ↦ λ is. told_more keys whys q w e (subst (IsTold was now) e (told_is was now session crossing w.key.now w.cause right.cause is)) right t
+      (elim (is_explained (kind_of w.key.now) w.cause) as (λ b. is_explained (kind_of w.key.now) w.cause ≡ b → Tells (keys ++ q ∷ []) (whys ++ (if b then w ∷ [] else []))) [
+        | true ↦ λ is. told_more keys whys q w e (subst (IsExplained was now) e (told_is was now session crossing w.key.now w.cause right.cause is)) right t
         | false ↦ λ is.
             subst (λ (ws : List Why). Tells (keys ++ q ∷ []) ws) (sym (append-nil whys))
-            (untold_more keys whys q (λ told. untold_is was now session crossing w.key.now w.cause right.cause is (subst (IsTold was now) (sym e) told)) t)
+            (untold_more keys whys q (λ told. untold_is was now session crossing w.key.now w.cause right.cause is (subst (IsExplained was now) (sym e) told)) t)
       ]) refl
 
   pub telling_next : {B : Type 0} (key_of : B → Key) (all : List B) (i : ℕ) (d : B) → i < length all → IsSession now → (whys : List Why) (w : Why) → w.key.now ≡ key_of (get_or all i d)
-      → IsRightWhy was now crossing w → Tells (map key_of (take i all)) whys → Tells (map key_of (take (i + 1) all)) (whys ++ told_part w)
+      → IsRightWhy was now crossing w → Tells (map key_of (take i all)) whys → Tells (map key_of (take (i + 1) all)) (whys ++ explained_part w)
   telling_next {B} key_of all i d lt session whys w e right t =
       let next : map key_of (take (i + 1) all) ≡ map key_of (take i all) ++ key_of (get_or all i d) ∷ []
       = ap (λ (xs : List B). map key_of xs) (take_more all i d lt) ∙ map-append key_of (take i all) (get_or all i d ∷ []) in
-      subst (λ (ks : List Key). Tells ks (whys ++ told_part w)) (sym next) (telling_more session (map key_of (take i all)) whys (key_of (get_or all i d)) w e right t)
+      subst (λ (ks : List Key). Tells ks (whys ++ explained_part w)) (sym next) (telling_more session (map key_of (take i all)) whys (key_of (get_or all i d)) w e right t)
 
   pub telling_ends : {B : Type 0} (key_of : B → Key) (all : List B) (i : ℕ) (whys : List Why) → length all ≤ i → AreKeysOfEither was now (map key_of all) → Tells (map key_of (take i all)) whys
       → AreWhys was now crossing whys

@@ -3,7 +3,8 @@ use Rattle.std.proofs.Common.{◌≡◌, ℕ, ◌+◌, ◌<◌, arith, List, [],
 use Rattle.std.specs.Prelude.{IfSome}
 use Rattle.item_ids.specs.declared.key.Key.{Key}
 use Rattle.item_ids.specs.declared.kind.Kind.{Kind}
-use Rattle.sessions.specs.Sessions.{SessionValue, IsSession, rank}
+use Rattle.item_ids.specs.Inputs.{rank}
+use Rattle.sessions.specs.Sessions.{SessionValue, IsSession}
 use Rattle.session_causes.specs.declared.cause.Why.{Why}
 use Rattle.session_causes.specs.Causes.{IsOfEither, IsRightWhy, IsTrail, red_key}
 use Rattle.session_causes.proofs.CauseRules.{red_leads}

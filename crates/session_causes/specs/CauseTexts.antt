@@ -4,9 +4,10 @@ use Rattle.std.specs.List.{AllByRecursion}
 use Rattle.item_ids.specs.declared.key.Key.{Key}
 use Rattle.item_ids.specs.declared.kind.Kind.{Kind}
 use Rattle.item_ids.specs.Keys.{kind_of}
+use Rattle.item_ids.specs.Inputs.{is_input}
 use Rattle.sessions.specs.declared.mark.Mark.{Mark}
 use Rattle.sessions.specs.declared.mark.Mark.TheVariants as marks
-use Rattle.sessions.specs.Marks.{is_input, mark_number}
+use Rattle.sessions.specs.Marks.{mark_number}
 use Rattle.sessions.specs.Sessions.{RecordValue, SessionValue}
 use Rattle.session_text.specs.SessionText.{key_words}
 use Rattle.session_causes.specs.declared.cause.Cause.{Cause}
@@ -47,8 +48,8 @@ abbrev pub many_with : Mark → List RecordValue → ℕ
 many_with mark records = count_by (λ r. mark_number r.mark == mark_number mark) records
 
 -- session 1: 1 inputs changed, 7 executed, 2 of them cut off, 30 green
-unfoldable pub line_with : ℕ → ℕ → ℕ → ℕ → ℕ → List ℕ
-line_with number inputs executed cut_off green =
+unfoldable pub counts_line : ℕ → ℕ → ℕ → ℕ → ℕ → List ℕ
+counts_line number inputs executed cut_off green =
     codes "session " ++ decimal number ++ codes ": " ++ decimal inputs ++ codes " inputs changed, "
     ++ decimal executed ++ codes " executed, " ++ decimal cut_off ++ codes " of them cut off, "
     ++ decimal green ++ codes " green\n"
@@ -57,10 +58,10 @@ line_with number inputs executed cut_off green =
 -- old result, and how many are green
 abbrev pub last_line : SessionValue → List Why → List ℕ
 last_line now whys =
-    line_with now.number (count_by is_of_input whys) (many_with marks.Executed now.records)
+    counts_line now.number (count_by is_of_input whys) (many_with marks.Executed now.records)
     (count_by is_cut_off whys) (many_with marks.Green now.records)
 
--- a line for each key that is told of, and then the counts
+-- a line for each key that is explained, and then the counts
 abbrev pub IsWhyText : Option SessionValue → SessionValue → List Kind → List ℕ → Type 0
 IsWhyText was now crossing text =
     (whys : List Why) × AreWhys was now crossing whys

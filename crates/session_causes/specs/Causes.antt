@@ -5,11 +5,11 @@ use Rattle.std.specs.Str.{bytes_eq}
 use Rattle.item_ids.specs.declared.key.Key.{Key}
 use Rattle.item_ids.specs.declared.kind.Kind.{Kind}
 use Rattle.item_ids.specs.Keys.{kind_of}
+use Rattle.item_ids.specs.Inputs.{is_input}
 use Rattle.fingerprint.specs.Prints.{print_of}
 use Rattle.mj_answer.specs.Order.{IsAscendingBy}
 use Rattle.sessions.specs.declared.mark.Mark.{Mark}
 use Rattle.sessions.specs.declared.mark.Mark.TheVariants as marks
-use Rattle.sessions.specs.Marks.{is_input}
 use Rattle.sessions.specs.Sessions.{Entry, SessionValue, entry_at, past_entry}
 use Rattle.graph_rules.specs.Settings.{has_kind}
 use Rattle.graph_rules.specs.Graphs.{KeyBefore}
@@ -69,9 +69,9 @@ abbrev pub IsOtherInput : Option SessionValue → SessionValue → Key → Type 
 IsOtherInput was now q =
     IsOfEither was now q × (is_input (kind_of q) ≡ true) × (is_red was now q ≡ true)
 
--- what is told of: an executed record, or an input that is new, changed or gone
-abbrev pub IsTold : Option SessionValue → SessionValue → Key → Type 0
-IsTold was now q = (mark_at now q ≡ Some marks.Executed) ⊎ IsOtherInput was now q
+-- what is explained: an executed record, or an input that is new, changed or gone
+abbrev pub IsExplained : Option SessionValue → SessionValue → Key → Type 0
+IsExplained was now q = (mark_at now q ≡ Some marks.Executed) ⊎ IsOtherInput was now q
 
 -- what is said of a key is right
 pub record IsRightWhy (was : Option SessionValue) (now : SessionValue) (crossing : List Kind)
@@ -79,12 +79,12 @@ pub record IsRightWhy (was : Option SessionValue) (now : SessionValue) (crossing
   pub cause : IsWhy was now crossing why.key.now why.cause
   pub same : why.is_same_result ≡ not (is_red was now why.key.now)
 
--- Each key that is told of has its place, in the order of keys, and what is said of it is right.
+-- Each key that is explained has its place, in the order of keys, and what is said of it is right.
 pub record AreWhys (was : Option SessionValue) (now : SessionValue) (crossing : List Kind)
     (whys : List Why) : Type 0 where
   pub ascending : IsAscendingBy (λ a b. KeyBefore a.key.now b.key.now) whys
-  pub each : AllByRecursion (λ why. IsTold was now why.key.now × IsRightWhy was now crossing why) whys
-  pub all : (q : Key) → IsTold was now q → (why : Why) × Contains whys why × (why.key.now ≡ q)
+  pub each : AllByRecursion (λ why. IsExplained was now why.key.now × IsRightWhy was now crossing why) whys
+  pub all : (q : Key) → IsExplained was now q → (why : Why) × Contains whys why × (why.key.now ≡ q)
 
 -- the key that a cause leads to
 abbrev pub red_key : Cause → Option Key

@@ -6,16 +6,16 @@ use Rattle.std.specs.declared.cmp.Ordering.TheVariants.{Less, Equal, Greater}
 use Rattle.item_ids.specs.declared.key.Key.{Key}
 use Rattle.item_ids.specs.declared.kind.Kind.{Kind}
 use Rattle.item_ids.specs.Keys.{key_cmp, kind_of}
+use Rattle.item_ids.specs.Inputs.{is_input}
 use Rattle.mj_answer.specs.Order.{IsAscendingBy}
 use Rattle.sessions.specs.declared.mark.Mark.{Mark}
 use Rattle.sessions.specs.declared.mark.Mark.TheVariants as marks
-use Rattle.sessions.specs.Marks.{is_input}
 use Rattle.sessions.specs.Sessions.{RecordValue, SessionValue}
 use Rattle.graph_rules.specs.Graphs.{KeyBefore}
 use Rattle.session_causes.specs.declared.cause.Cause.{Cause}
 use Rattle.session_causes.specs.declared.cause.Cause.TheVariants.{New, Changed, Gone, Same, Green, Red, OtherProfile, NothingChanged}
 use Rattle.session_causes.specs.declared.cause.Why.{Why}
-use Rattle.session_causes.specs.declared.keys.Step.{Step}
+use Rattle.session_causes.specs.declared.keys.MergeStep.{MergeStep}
 use Rattle.session_causes.specs.Causes.{IsOfEither}
 
 -- ---- causes
@@ -33,20 +33,20 @@ IsRunCause red crosses OtherProfile = (red ≡ None) × (crosses ≡ true)
 IsRunCause red crosses NothingChanged = (red ≡ None) × (crosses ≡ false)
 IsRunCause red crosses _ = ⊥
 
--- the cause of a key of this kind is told
-abbrev pub is_told : Kind → Cause → Bool
-is_told kind New = true
-is_told kind Changed = true
-is_told kind Gone = is_input kind
-is_told kind Same = false
-is_told kind Green = false
-is_told kind (Red e) = true
-is_told kind OtherProfile = true
-is_told kind NothingChanged = true
+-- a key of this kind with this cause is explained
+abbrev pub is_explained : Kind → Cause → Bool
+is_explained kind New = true
+is_explained kind Changed = true
+is_explained kind Gone = is_input kind
+is_explained kind Same = false
+is_explained kind Green = false
+is_explained kind (Red e) = true
+is_explained kind OtherProfile = true
+is_explained kind NothingChanged = true
 
--- what is said of a key, where it is told
-abbrev pub told_part : Why → List Why
-told_part why = if is_told (kind_of why.key.now) why.cause then why ∷ [] else []
+-- what is said of a key, if it is explained
+abbrev pub explained_part : Why → List Why
+explained_part why = if is_explained (kind_of why.key.now) why.cause then why ∷ [] else []
 
 -- ---- keys
 
@@ -63,24 +63,24 @@ pub record AreKeysOfEither (was : Option SessionValue) (now : SessionValue)
   pub all : (q : Key) → IsOfEither was now q → Contains keys q
 
 -- The step passes the key, in as many of the records of the session before, and of this one.
-abbrev pub Passes : Key → ℕ → ℕ → Step → Type 0
-Passes key past now step = (step.key.now ≡ key) × (step.past ≡ past) × (step.now ≡ now)
+abbrev pub PassesKey : Key → ℕ → ℕ → MergeStep → Type 0
+PassesKey key past now step = (step.key.now ≡ key) × (step.past ≡ past) × (step.now ≡ now)
 
 -- the step passes the lesser key
-abbrev pub PassesLesser : Key → Key → Ordering → Step → Type 0
-PassesLesser had key Less step = Passes had 1 0 step
-PassesLesser had key Equal step = Passes key 1 1 step
-PassesLesser had key Greater step = Passes key 0 1 step
+abbrev pub PassesLesserKey : Key → Key → Ordering → MergeStep → Type 0
+PassesLesserKey had key Less step = PassesKey had 1 0 step
+PassesLesserKey had key Equal step = PassesKey key 1 1 step
+PassesLesserKey had key Greater step = PassesKey key 0 1 step
 
 -- the next step over the keys that stand in front, and none where none does
-abbrev pub IsStep : Option Key → Option Key → Option Step → Type 0
-IsStep None None step = step ≡ None
-IsStep (Some had) None step = MatchOption step ⊥ (Passes had 1 0)
-IsStep None (Some key) step = MatchOption step ⊥ (Passes key 0 1)
-IsStep (Some had) (Some key) step = MatchOption step ⊥ (PassesLesser had key (key_cmp had key))
+abbrev pub IsMergeStep : Option Key → Option Key → Option MergeStep → Type 0
+IsMergeStep None None step = step ≡ None
+IsMergeStep (Some had) None step = MatchOption step ⊥ (PassesKey had 1 0)
+IsMergeStep None (Some key) step = MatchOption step ⊥ (PassesKey key 0 1)
+IsMergeStep (Some had) (Some key) step = MatchOption step ⊥ (PassesLesserKey had key (key_cmp had key))
 
 -- the step leads on, and not past the ends
-pub record FitsIn (many count i j : ℕ) (step : Step) : Type 0 where
+pub record FitsIn (many count i j : ℕ) (step : MergeStep) : Type 0 where
   pub past : i + step.past ≤ many
   pub now : j + step.now ≤ count
   pub on : i + j < i + step.past + (j + step.now)

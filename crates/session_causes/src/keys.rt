@@ -3,7 +3,7 @@ ghost use Rattle.std.specs.Prelude.{◌≡◌, ◌+◌, ◌<◌, ◌≤◌, IfOk
 ghost use Rattle.std.specs.Option.{option_copied};
 ghost use Rattle.item_ids.specs.Keys.{key_cmp};
 ghost use Rattle.sessions.specs.Sessions.{IsSession};
-ghost use Rattle.session_causes.specs.Parts.{AreKeysOfEither, FitsIn, IsStep, PassesLesser, records_in};
+ghost use Rattle.session_causes.specs.Parts.{AreKeysOfEither, FitsIn, IsMergeStep, PassesLesserKey, records_in};
 
 use item_ids::Key;
 use sessions::{Record, Session};
@@ -45,7 +45,7 @@ fn records_of(past: Option<&Session>) -> &[Record]
 
 /// The least key that is left, and how many records of the session before and of this one it has.
 #[derive(Clone, Copy)]
-struct Step<'a> {
+struct MergeStep<'a> {
     key: &'a Key,
     past: usize,
     now: usize,
@@ -57,21 +57,21 @@ fn next_step<'a>(
     i: usize,
     records: &'a [Record],
     j: usize,
-) -> Option<Step<'a>>
+) -> Option<MergeStep<'a>>
     requires before { i ≤ length before.now }
     requires records { j ≤ length records.now }
-    ensures step { IsStep (slice_get (map (λ r. r.key) before.now) i)
+    ensures step { IsMergeStep (slice_get (map (λ r. r.key) before.now) i)
         (slice_get (map (λ r. r.key) records.now) j) result }
     ensures fits { IfSome result (FitsIn (length before.now) (length records.now) i j) }
 {
     match (before.get(i), records.get(j)) {
         (Some(had), Some(item)) => Some(lesser(had.key(), item.key())),
-        (Some(had), None) => Some(Step {
+        (Some(had), None) => Some(MergeStep {
             key: had.key(),
             past: 1,
             now: 0,
         }),
-        (None, Some(item)) => Some(Step {
+        (None, Some(item)) => Some(MergeStep {
             key: item.key(),
             past: 0,
             now: 1,
@@ -81,22 +81,22 @@ fn next_step<'a>(
 }
 
 /// The step over the lesser one of two keys, or over both.
-fn lesser<'a>(had: &'a Key, key: &'a Key) -> Step<'a>
-    ensures step { PassesLesser had.now key.now (key_cmp had.now key.now) result }
+fn lesser<'a>(had: &'a Key, key: &'a Key) -> MergeStep<'a>
+    ensures step { PassesLesserKey had.now key.now (key_cmp had.now key.now) result }
     ensures few { (result.past ≤ 1) × (result.now ≤ 1) × (0 < result.past + result.now) }
 {
     match had.cmp(key) {
-        Ordering::Less => Step {
+        Ordering::Less => MergeStep {
             key: had,
             past: 1,
             now: 0,
         },
-        Ordering::Equal => Step {
+        Ordering::Equal => MergeStep {
             key,
             past: 1,
             now: 1,
         },
-        Ordering::Greater => Step {
+        Ordering::Greater => MergeStep {
             key,
             past: 0,
             now: 1,

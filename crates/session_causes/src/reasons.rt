@@ -4,10 +4,10 @@ ghost use Rattle.std.specs.List.{list_any};
 ghost use Rattle.std.specs.Option.{option_copied};
 ghost use Rattle.item_ids.specs.Kinds.{number_of};
 ghost use Rattle.item_ids.specs.Keys.{kind_of};
-ghost use Rattle.sessions.specs.Marks.{is_input};
+ghost use Rattle.item_ids.specs.Inputs.{is_input};
 ghost use Rattle.sessions.specs.Sessions.{IsSession, entry_at, entry_of};
 ghost use Rattle.session_causes.specs.Causes.{IsOfEither, IsRightWhy, IsWhy, is_red, red_key};
-ghost use Rattle.session_causes.specs.Parts.{IsRunCause, fresh_cause, is_told};
+ghost use Rattle.session_causes.specs.Parts.{IsRunCause, fresh_cause, is_explained};
 
 use crate::cause::{Cause, Why};
 use crate::reds::{first_red, is_red, is_same_print};
@@ -115,9 +115,9 @@ fn is_among(kinds: &[Kind], kind: Kind) -> bool
     kinds.iter().any(|one| one.number() == kind.number())
 }
 
-/// Whether what is said of a key is told without being asked for.
-pub(crate) fn is_told(why: &Why<'_>) -> bool
-    ensures { result ≡ is_told (kind_of why.now.key.now) why.now.cause }
+/// Whether the key is explained without being asked for.
+pub(crate) fn is_explained(why: &Why<'_>) -> bool
+    ensures { result ≡ is_explained (kind_of why.now.key.now) why.now.cause }
 {
     match why.cause {
         Cause::New | Cause::Changed => true,

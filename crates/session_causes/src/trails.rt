@@ -3,15 +3,15 @@ ghost use Rattle.std.specs.Prelude.{◌≡◌, ◌++◌, Some, IfOk, OnOk, map};
 ghost use Rattle.std.specs.List.{AllByRecursion};
 ghost use Rattle.std.specs.Option.{option_copied};
 ghost use Rattle.session_causes.specs.Causes.{AreWhys, IsOfEither, IsRightWhy, IsTrail};
-ghost use Rattle.session_causes.specs.Parts.{AreKeysOfEither, told_part};
+ghost use Rattle.session_causes.specs.Parts.{AreKeysOfEither, explained_part};
 
 use crate::cause::Why;
-use crate::reasons::{is_session, is_told, red_key, why_of};
+use crate::reasons::{is_explained, is_session, red_key, why_of};
 use item_ids::{Key, Kind};
 use sessions::Session;
 use std::alloc::{AllocError, Global};
 
-/// What is told of the keys of two sessions.
+/// What is said of the keys of two sessions that are explained.
 pub(crate) fn whys_of<'a>(
     alloc: Global,
     crossing: &[Kind],
@@ -32,11 +32,11 @@ pub(crate) fn whys_of<'a>(
     Ok(whys)
 }
 
-/// Adds what is said of a key to the others, where it is told.
+/// Adds what is said of a key to the others, if the key is explained.
 fn tell<'a>(whys: &mut Vec<Why<'a>>, why: Why<'a>) -> Result<(), AllocError>
-    ensures { OnOk result (whys.new.items ≡ whys.old.items ++ told_part why.entry) }
+    ensures { OnOk result (whys.new.items ≡ whys.old.items ++ explained_part why.entry) }
 {
-    if !is_told(&why) {
+    if !is_explained(&why) {
         return Ok(());
     }
     whys.push(why)?;

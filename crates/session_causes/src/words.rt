@@ -1,7 +1,7 @@
 //! The lines.
 ghost use Rattle.std.specs.Prelude.{◌≡◌, ◌++◌, ◌==◌, OnOk, count_by, flat_map, string_bytes};
 ghost use Rattle.sessions.specs.Marks.{mark_number};
-ghost use Rattle.session_causes.specs.CauseTexts.{cause_words, is_cut_off, is_of_input, last_line, line_with, many_with, result_words, why_line};
+ghost use Rattle.session_causes.specs.CauseTexts.{cause_words, is_cut_off, is_of_input, last_line, counts_line, many_with, result_words, why_line};
 
 use crate::cause::{Cause, Why};
 use crate::reasons::is_input;
@@ -84,7 +84,7 @@ pub(crate) fn write_counts(
 }
 
 /// Adds the line of this number and these counts.
-#[tactic(auto, unfolding(crate::specs::CauseTexts::line_with))]
+#[tactic(auto, unfolding(crate::specs::CauseTexts::counts_line))]
 fn write_last(
     text: &mut String,
     number: u32,
@@ -94,7 +94,7 @@ fn write_last(
     green: usize,
 ) -> Result<(), AllocError>
     ensures { OnOk result (string_bytes text.new
-        ≡ string_bytes text.old ++ line_with number inputs executed cut_off green) }
+        ≡ string_bytes text.old ++ counts_line number inputs executed cut_off green) }
 {
     write!(text, "session {number}: {inputs} inputs changed, ")?;
     write!(text, "{executed} executed, {cut_off} of them cut off, ")?;

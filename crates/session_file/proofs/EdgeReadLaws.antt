@@ -1,70 +1,45 @@
 -- Edges: what is read is spelled there, and each spelling is read back.
-use Rattle.std.proofs.Common.{◌≡◌, ◌≢◌, ℕ, zero, suc, ◌+◌, ◌-◌, ◌<◌, ◌≤◌, ◌^◌, ◌&&◌, ◌||◌, Bool, true, false, not, cond, eqb, ltb, List, [], ◌∷◌, ◌++◌, length, get_or, Ok, Err, refl, sym, ap, subst, ◌∙◌, append_assoc, arith}
+use Rattle.std.proofs.Common.{◌≡◌, ◌≢◌, ℕ, zero, suc, ◌+◌, ◌-◌, ◌<◌, ◌≤◌, ◌^◌, ◌&&◌, Bool, true, false, not, cond, eqb, ltb, List, [], ◌∷◌, ◌++◌, length, get_or, Ok, Err, refl, sym, ap, subst, ◌∙◌, append_assoc, arith}
 use Rattle.std.specs.Prelude.{◌↔◌, IsTrue}
 use Rattle.std.specs.List.{AllByRecursion, flat_map}
-use Rattle.std.proofs.lemmas.Bool.{eqb-false, ne_eqb, ltb-true, lt-ltb}
+use Rattle.std.specs.Cmp.{both_ways}
+use Rattle.std.proofs.lemmas.Bool.{eqb-false, ne_eqb, ltb-true, lt-ltb, and_parts, and_from, or_parts, or_from, not-true, not_from_false}
 use Rattle.std.proofs.lemmas.List.{append-nil}
 use Rattle.std.proofs.lemmas.List.Concat.{flat_map-cons}
 use Rattle.item_ids.specs.declared.key.Key.{Key}
+use Rattle.item_ids.specs.Inputs.{rank}
+use Rattle.item_ids.specs.KeyLists.{NoneTwice}
+use Rattle.item_ids.proofs.Lists.{all_push, once_push}
 use Rattle.byte_readers.specs.Lawful.{IsBytes, Takes}
 use Rattle.byte_readers.specs.Laws.{Takes-then, lawful_eight}
 use Rattle.byte_readers.specs.Spelling.{eight}
 use Rattle.byte_readers.specs.Reading.{eight_at}
-use Rattle.sessions.specs.Sessions.{RecordValue, rank, key_at, IsEdge, AreDistinct}
+use Rattle.sessions.specs.Sessions.{RecordValue, key_at, IsEdge}
 use Rattle.sessions.specs.Edges.{IsNewEdge, AreEdges, IsNoneOf}
-use Rattle.sessions.proofs.Lists.{all_push, all_last, distinct_push, distinct_last}
+use Rattle.sessions.proofs.Lists.{all_last, distinct_last}
 use Rattle.sessions.proofs.EdgeLaws.{SoFar}
 use Rattle.session_file.specs.declared.fault.FileFault.{FileFault}
 use Rattle.session_file.specs.declared.fault.FileFault.TheVariants.{BadEdge}
-use Rattle.session_file.specs.Reading.{whole, is_among, is_next_edge, edges_from}
+use Rattle.session_file.specs.Reading.{or_truncated, is_among, is_next_edge, edges_from}
 use Rattle.session_file.proofs.ReadLaws.{done, ok_is, bind_ok, bind_is, guard_so, number_takes, number_again}
-
-both : (a b : Bool) → (a && b) ≡ true → (a ≡ true) × (b ≡ true)
-both true b e = (refl, e)
-both false b e = absurd cc
-
-of_both : (a b : Bool) → a ≡ true → b ≡ true → (a && b) ≡ true
-of_both true b e f = f
-of_both false b e f = absurd cc
-
-not_so : (b : Bool) → not b ≡ true → b ≡ false
-not_so true e = absurd cc
-not_so false e = refl
-
-so_not : (b : Bool) → b ≡ false → not b ≡ true
-so_not true e = absurd cc
-so_not false e = refl
-
-neither : (a b : Bool) → (a || b) ≡ false → (a ≡ false) × (b ≡ false)
-neither true b e = absurd cc
-neither false b e = (refl, e)
-
-of_neither : (a b : Bool) → a ≡ false → b ≡ false → (a || b) ≡ false
-of_neither true b e f = absurd cc
-of_neither false b e f = f
-
-bool_same : (a b : Bool) → (a ≡ true → b ≡ true) → (b ≡ true → a ≡ true) → a ≡ b
-bool_same true b f g = sym (f refl)
-bool_same false true f g = g refl
-bool_same false false f g = refl
 
 none_among : (ds : List ℕ) (e : ℕ) → is_among ds e ≡ false → IsNoneOf ds e
 none_among [] e h = tt
-none_among (d ∷ ds) e h = let n = neither (eqb d e) (is_among ds e) h in (eqb-false d e n.0, none_among ds e n.1)
+none_among (d ∷ ds) e h = let n = or_parts (eqb d e) (is_among ds e) h in (eqb-false d e n.0, none_among ds e n.1)
 
 among_none : (ds : List ℕ) (e : ℕ) → IsNoneOf ds e → is_among ds e ≡ false
 among_none [] e h = refl
-among_none (d ∷ ds) e h = of_neither (eqb d e) (is_among ds e) (ne_eqb d e h.0) (among_none ds e h.1)
+among_none (d ∷ ds) e h = or_from (eqb d e) (is_among ds e) (ne_eqb d e h.0) (among_none ds e h.1)
 
 pub next_edge : (front : List RecordValue) (key : Key) (edges : List ℕ) (e : ℕ) → is_next_edge front key edges e ≡ true → IsEdge front key e × IsNoneOf edges e
 next_edge front key edges e h =
-    let a = both (ltb e (length front)) (ltb (rank (key_at front e)) (rank key) && not (is_among edges e)) h in
-    let b = both (ltb (rank (key_at front e)) (rank key)) (not (is_among edges e)) a.1 in
-    ((ltb-true _ _ a.0, ltb-true _ _ b.0), none_among edges e (not_so _ b.1))
+    let a = and_parts (ltb e (length front)) (ltb (rank (key_at front e)) (rank key) && not (is_among edges e)) h in
+    let b = and_parts (ltb (rank (key_at front e)) (rank key)) (not (is_among edges e)) a.1 in
+    ((ltb-true _ _ a.0, ltb-true _ _ b.0), none_among edges e (not-true _ b.1))
 
 pub is_next : (front : List RecordValue) (key : Key) (edges : List ℕ) (e : ℕ) → IsEdge front key e → IsNoneOf edges e → is_next_edge front key edges e ≡ true
 is_next front key edges e h none =
-    of_both (ltb e (length front)) (ltb (rank (key_at front e)) (rank key) && not (is_among edges e)) (lt-ltb _ _ h.0) (of_both (ltb (rank (key_at front e)) (rank key)) (not (is_among edges e)) (lt-ltb _ _ h.1) (so_not _ (among_none edges e none)))
+    and_from (ltb e (length front)) (ltb (rank (key_at front e)) (rank key) && not (is_among edges e)) (lt-ltb _ _ h.0) (and_from (ltb (rank (key_at front e)) (rank key)) (not (is_among edges e)) (lt-ltb _ _ h.1) (not_from_false _ (among_none edges e none)))
 
 not_seen : (seen : List Bool) (e : ℕ) (b : Bool) → get_or seen e false ≡ b → (get_or seen e false ≡ true → ⊥) → get_or seen e false ≡ false
 not_seen seen e true is h = absurd (h is)
@@ -73,7 +48,7 @@ not_seen seen e false is h = is
 -- the test of an edge, by what was seen
 pub admitted_is : (seen : List Bool) (front : List RecordValue) (key : Key) (edges : List ℕ) (e : ℕ) (admitted : Bool) → SoFar seen front key edges → IsTrue admitted ↔ IsNewEdge seen front key e → admitted ≡ is_next_edge front key edges e
 admitted_is seen front key edges e admitted h is =
-    bool_same admitted (is_next_edge front key edges e)
+    both_ways admitted (is_next_edge front key edges e)
     (λ t. let new = is.0 t in is_next front key edges e new.0 (h.tells.unseen e (omega (arith, h.same, new.0.0)) new.1))
     (λ t. let next = next_edge front key edges e t in
     is.1 (next.0, not_seen seen e (get_or seen e false) refl (λ one. h.tells.seen_one e (omega (arith, h.same, next.0.0)) one next.1)))
@@ -99,11 +74,11 @@ edges_take front key zero edges bytes all rest are fits e =
       are = subst (λ (x : List ℕ × List ℕ). AreEdges front key x.0) is are;
     }
 edges_take front key (suc n) edges bytes all rest are fits e =
-    let a = bind_ok (whole (eight_at bytes)) (λ e. cond (is_next_edge front key edges e.0) (edges_from front key (edges ++ e.0 ∷ []) n e.1) (Err (BadEdge (length front) (length edges)))) (all, rest) e in
+    let a = bind_ok (or_truncated (eight_at bytes)) (λ e. cond (is_next_edge front key edges e.0) (edges_from front key (edges ++ e.0 ∷ []) n e.1) (Err (BadEdge (length front) (length edges)))) (all, rest) e in
     let g = guard_so (is_next_edge front key edges a.0.0) (BadEdge (length front) (length edges)) (edges_from front key (edges ++ a.0.0 ∷ []) n a.0.1) (all, rest) a.2 in
     let next = next_edge front key edges a.0.0 g.0 in
     let t = number_takes lawful_eight bytes a.0.0 a.0.1 fits a.1 in
-    let more : AreEdges front key (edges ++ a.0.0 ∷ []) = (all_push (IsEdge front key) edges a.0.0 are.0 next.0, distinct_push edges a.0.0 are.1 next.1) in
+    let more : AreEdges front key (edges ++ a.0.0 ∷ []) = (all_push (IsEdge front key) edges a.0.0 are.0 next.0, once_push (λ (m : ℕ). m) edges a.0.0 are.1 next.1) in
     let u = edges_take front key n (edges ++ a.0.0 ∷ []) a.0.1 all rest more t.0.rest_fits g.1 in
     record {
       items = a.0.0 ∷ u.items;
@@ -117,7 +92,7 @@ all_prefix : {A : Type 0} (P : A → Type 0) (xs ys : List A) → AllByRecursion
 all_prefix P [] ys h = tt
 all_prefix P (x ∷ xs) ys h = (h.0, all_prefix P xs ys h.1)
 
-distinct_prefix : (xs ys : List ℕ) → AreDistinct (xs ++ ys) → AreDistinct xs
+distinct_prefix : (xs ys : List ℕ) → NoneTwice (λ n. n) (xs ++ ys) → NoneTwice (λ n. n) xs
 distinct_prefix [] ys h = tt
 distinct_prefix (x ∷ xs) ys h = (all_prefix (λ m. m ≢ x) xs ys h.0, distinct_prefix xs ys h.1)
 
@@ -128,30 +103,30 @@ edges_again front key (e ∷ items) edges rest few are =
     let regrouped : flat_map eight (e ∷ items) ++ rest ≡ eight e ++ (flat_map eight items ++ rest) = ap (λ (x : List ℕ). x ++ rest) (flat_map-cons eight e items) ∙ append_assoc (eight e) (flat_map eight items) rest in
     let longer : AreEdges front key ((edges ++ e ∷ []) ++ items) = subst (AreEdges front key) (sym (append_assoc edges (e ∷ []) items)) are in
     let here_all : AllByRecursion (IsEdge front key) (edges ++ e ∷ []) = all_prefix (IsEdge front key) (edges ++ e ∷ []) items longer.0 in
-    let here_distinct : AreDistinct (edges ++ e ∷ []) = distinct_prefix (edges ++ e ∷ []) items longer.1 in
+    let here_distinct : NoneTwice (λ n. n) (edges ++ e ∷ []) = distinct_prefix (edges ++ e ∷ []) items longer.1 in
     let edge : IsEdge front key e = all_last (IsEdge front key) edges e here_all in
     let next : is_next_edge front key edges e ≡ true = is_next front key edges e edge (distinct_last edges e here_distinct) in
     let small : e < 2 ^ 64 = omega (arith, edge.0, few) in
     ap (edges_from front key edges (suc (length items))) regrouped
-    ∙ bind_is (whole (eight_at (eight e ++ (flat_map eight items ++ rest)))) (λ e. cond (is_next_edge front key edges e.0) (edges_from front key (edges ++ e.0 ∷ []) (length items) e.1) (Err (BadEdge (length front) (length edges)))) (e, flat_map eight items ++ rest) (number_again lawful_eight e (flat_map eight items ++ rest) small)
+    ∙ bind_is (or_truncated (eight_at (eight e ++ (flat_map eight items ++ rest)))) (λ e. cond (is_next_edge front key edges e.0) (edges_from front key (edges ++ e.0 ∷ []) (length items) e.1) (Err (BadEdge (length front) (length edges)))) (e, flat_map eight items ++ rest) (number_again lawful_eight e (flat_map eight items ++ rest) small)
     ∙ rw next (edges_again front key items (edges ++ e ∷ []) rest few longer)
     ∙ ap (λ (x : List ℕ). done (x, rest)) (append_assoc edges (e ∷ []) items)
 
 -- ---- the loop
 
-pub edges_go_on : (front : List RecordValue) (key : Key) (edges : List ℕ) (count i : ℕ) (bytes : List ℕ) (e : ℕ) (after : List ℕ) → i < count → whole (eight_at bytes) ≡ Ok (e, after) → is_next_edge front key edges e ≡ true → edges_from front key edges (count - i) bytes ≡ edges_from front key (edges ++ e ∷ []) (count - (i + 1)) after
+pub edges_go_on : (front : List RecordValue) (key : Key) (edges : List ℕ) (count i : ℕ) (bytes : List ℕ) (e : ℕ) (after : List ℕ) → i < count → or_truncated (eight_at bytes) ≡ Ok (e, after) → is_next_edge front key edges e ≡ true → edges_from front key edges (count - i) bytes ≡ edges_from front key (edges ++ e ∷ []) (count - (i + 1)) after
 unfolding edges_from
 edges_go_on front key edges count i bytes e after lt h next =
     let k : count - i ≡ suc (count - (i + 1)) = omega arith in
     rw (k, h, next) refl
 
-pub edges_refused : (front : List RecordValue) (key : Key) (edges : List ℕ) (count i : ℕ) (bytes : List ℕ) (e : ℕ) (after : List ℕ) → i < count → whole (eight_at bytes) ≡ Ok (e, after) → is_next_edge front key edges e ≡ false → edges_from front key edges (count - i) bytes ≡ Err (BadEdge (length front) (length edges))
+pub edges_refused : (front : List RecordValue) (key : Key) (edges : List ℕ) (count i : ℕ) (bytes : List ℕ) (e : ℕ) (after : List ℕ) → i < count → or_truncated (eight_at bytes) ≡ Ok (e, after) → is_next_edge front key edges e ≡ false → edges_from front key edges (count - i) bytes ≡ Err (BadEdge (length front) (length edges))
 unfolding edges_from
 edges_refused front key edges count i bytes e after lt h not_next =
     let k : count - i ≡ suc (count - (i + 1)) = omega arith in
     rw (k, h, not_next) refl
 
-pub edges_break : (front : List RecordValue) (key : Key) (edges : List ℕ) (count i : ℕ) (bytes : List ℕ) (fault : FileFault) → i < count → whole (eight_at bytes) ≡ Err fault → edges_from front key edges (count - i) bytes ≡ Err fault
+pub edges_break : (front : List RecordValue) (key : Key) (edges : List ℕ) (count i : ℕ) (bytes : List ℕ) (fault : FileFault) → i < count → or_truncated (eight_at bytes) ≡ Err fault → edges_from front key edges (count - i) bytes ≡ Err fault
 unfolding edges_from
 edges_break front key edges count i bytes fault lt h =
     let k : count - i ≡ suc (count - (i + 1)) = omega arith in

@@ -1,7 +1,5 @@
 -- What is read from a feed, step by step.
 use Rattle.std.proofs.Common.{◌≡◌, ℕ, suc, ◌+◌, ◌-◌, ◌<◌, ◌≤◌, inl, inr, false, ltb, List, [], ◌∷◌, ◌++◌, length, take, drop, get_or, Result, Ok, Err, refl, sym, ap, subst, ◌∙◌, append_assoc, arith}
-use Rattle.std.specs.Result.{IsErrAnd}
-use Rattle.std.proofs.lemmas.Result.{err_from_is_err_and}
 use Rattle.std.specs.Int.{Width, w16, w32, w64, byte_len, from_be_bytes}
 use Rattle.byteorder.specs.Endian.{big_number}
 use Rattle.byte_readers.proofs.Numbers.{two_is, four_is, eight_is}
@@ -15,11 +13,11 @@ use Rattle.byte_readers.specs.Reading.{byte_at, number_at, two_at, four_at, eigh
 use Rattle.session_file.specs.declared.fault.FileFault.{FileFault}
 use Rattle.session_file.specs.declared.fault.FileFault.TheVariants.{Truncated}
 use Rattle.devices.specs.declared.hashing.HashingSink.{HashingSink}
-use Rattle.session_file.specs.declared.stop.Stop.{Stop}
-use Rattle.session_file.specs.declared.stop.Stop.TheVariants as stops
+use Rattle.session_file.specs.declared.reading.feed_fault.FeedFault.{FeedFault}
+use Rattle.session_file.specs.declared.reading.feed_fault.FeedFault.TheVariants as faults
 use Rattle.devices.specs.Devices.{MovesBytes}
-use Rattle.session_file.specs.Reading.{Parser, whole, bytes_at, text_at}
-use Rattle.session_file.specs.Feeding.{Given, IsShort, FillsNot, Moved, Took, Breaks, Halts, Leads}
+use Rattle.session_file.specs.Reading.{Parser, or_truncated, slice_at, short_text_at}
+use Rattle.session_file.specs.Feeding.{Given, IsShorter, FillsNot, Moved, Took, HasBreach, StopsAs, Leads}
 
 pub bytes_both : (p q : List ℕ) → IsBytes p → IsBytes q → IsBytes (p ++ q)
 bytes_both p q hp hq i =
@@ -65,51 +63,47 @@ took_at {A} {old} {new} {g} {h} {step} {a} took bytes has =
     let l = took.moved.given.left bytes has in
     record { rest = l.rest; is = ap step l.whole ∙ took.reads l.rest; holds = l.holds }
 
-pub stops_by : {A B : Type 0} {old mid : List ℕ → Type 0} {p : List ℕ → Result A FileFault} {q : List ℕ → Result B FileFault} (stop : Stop) → Halts mid stop p → ((fault : FileFault) → Breaks mid p fault → Breaks old q fault) → Halts old stop q
-stops_by stops.Memory h f = tt
-stops_by stops.Device h f = tt
-stops_by (stops.Breach fault) h f = f fault h
+pub stops_by : {A B : Type 0} {old mid : List ℕ → Type 0} {p : List ℕ → Result A FileFault} {q : List ℕ → Result B FileFault} (stop : FeedFault) → StopsAs mid stop p → ((fault : FileFault) → HasBreach mid p fault → HasBreach old q fault) → StopsAs old stop q
+stops_by faults.Memory h f = tt
+stops_by faults.Device h f = tt
+stops_by (faults.Breach fault) h f = f fault h
 
-pub stops_short : {B : Type 0} {old mid : List ℕ → Type 0} {count : ℕ} {q : List ℕ → Result B FileFault} (stop : Stop) → FillsNot mid count stop → (IsShort mid count → Breaks old q Truncated) → Halts old stop q
-stops_short stops.Memory h f = tt
-stops_short stops.Device h f = tt
-stops_short {B} {old} {mid} {count} {q} (stops.Breach fault) h f = subst (Breaks old q) (sym h.0) (f h.1)
-
--- what stopped a step is handed on
-pub handed_on : {A : Type 0} (r : Result A Stop) (stop : Stop) → IsErrAnd r (λ e. e ≡ stop) → r ≡ Err stop
-handed_on r stop is = let e = err_from_is_err_and r is in e.1 ∙ ap Err e.2
+pub stops_short : {B : Type 0} {old mid : List ℕ → Type 0} {count : ℕ} {q : List ℕ → Result B FileFault} (stop : FeedFault) → FillsNot mid count stop → (IsShorter mid count → HasBreach old q Truncated) → StopsAs old stop q
+stops_short faults.Memory h f = tt
+stops_short faults.Device h f = tt
+stops_short {B} {old} {mid} {count} {q} (faults.Breach fault) h f = subst (HasBreach old q) (sym h.0) (f h.1)
 
 -- ---- numbers
 
-number_reads : (w : Width) (part rest : List ℕ) → length part ≡ byte_len w → whole (number_at w (part ++ rest)) ≡ Ok (from_be_bytes w part, rest)
+number_reads : (w : Width) (part rest : List ℕ) → length part ≡ byte_len w → or_truncated (number_at w (part ++ rest)) ≡ Ok (from_be_bytes w part, rest)
 number_reads w part rest len =
     let long : ltb (length (part ++ rest)) (byte_len w) ≡ false = le-ltb _ _ (omega (arith, length-append part rest, len)) in
     rw (long, take_at part rest (byte_len w) len, drop_at part rest (byte_len w) len) refl
 
-number_ends : (w : Width) (bytes : List ℕ) → length bytes < byte_len w → whole (number_at w bytes) ≡ Err Truncated
+number_ends : (w : Width) (bytes : List ℕ) → length bytes < byte_len w → or_truncated (number_at w bytes) ≡ Err Truncated
 number_ends w bytes lt = rw (lt-ltb _ _ lt) refl
 
-pub eight_took : {old new : List ℕ → Type 0} {g h : HashingSink} {part : List ℕ} (n : ℕ) → Moved old new g h part → length part ≡ 8 → n ≡ big_number 8 part → Took old new g h (λ bytes. whole (eight_at bytes)) n
+pub eight_took : {old new : List ℕ → Type 0} {g h : HashingSink} {part : List ℕ} (n : ℕ) → Moved old new g h part → length part ≡ 8 → n ≡ big_number 8 part → Took old new g h (λ bytes. or_truncated (eight_at bytes)) n
 unfolding eight_at
 eight_took {old} {new} {g} {h} {part} n moved len is = record { part = part; moved = moved; reads = λ rest. rw (is, eight_is part) (number_reads w64 part rest len) }
 
-pub eight_stops : (old : List ℕ → Type 0) (stop : Stop) → FillsNot old 8 stop → Halts old stop (λ bytes. whole (eight_at bytes))
+pub eight_stops : (old : List ℕ → Type 0) (stop : FeedFault) → FillsNot old 8 stop → StopsAs old stop (λ bytes. or_truncated (eight_at bytes))
 unfolding eight_at
 eight_stops old stop h = stops_short stop h (λ s. record { breach = λ bytes has. number_ends w64 bytes (s.short bytes has) })
 
-pub four_took : {old new : List ℕ → Type 0} {g h : HashingSink} {part : List ℕ} (n : ℕ) → Moved old new g h part → length part ≡ 4 → n ≡ big_number 4 part → Took old new g h (λ bytes. whole (four_at bytes)) n
+pub four_took : {old new : List ℕ → Type 0} {g h : HashingSink} {part : List ℕ} (n : ℕ) → Moved old new g h part → length part ≡ 4 → n ≡ big_number 4 part → Took old new g h (λ bytes. or_truncated (four_at bytes)) n
 unfolding four_at
 four_took {old} {new} {g} {h} {part} n moved len is = record { part = part; moved = moved; reads = λ rest. rw (is, four_is part) (number_reads w32 part rest len) }
 
-pub four_stops : (old : List ℕ → Type 0) (stop : Stop) → FillsNot old 4 stop → Halts old stop (λ bytes. whole (four_at bytes))
+pub four_stops : (old : List ℕ → Type 0) (stop : FeedFault) → FillsNot old 4 stop → StopsAs old stop (λ bytes. or_truncated (four_at bytes))
 unfolding four_at
 four_stops old stop h = stops_short stop h (λ s. record { breach = λ bytes has. number_ends w32 bytes (s.short bytes has) })
 
-pub two_took : {old new : List ℕ → Type 0} {g h : HashingSink} {part : List ℕ} (n : ℕ) → Moved old new g h part → length part ≡ 2 → n ≡ big_number 2 part → Took old new g h (λ bytes. whole (two_at bytes)) n
+pub two_took : {old new : List ℕ → Type 0} {g h : HashingSink} {part : List ℕ} (n : ℕ) → Moved old new g h part → length part ≡ 2 → n ≡ big_number 2 part → Took old new g h (λ bytes. or_truncated (two_at bytes)) n
 unfolding two_at
 two_took {old} {new} {g} {h} {part} n moved len is = record { part = part; moved = moved; reads = λ rest. rw (is, two_is part) (number_reads w16 part rest len) }
 
-pub two_stops : (old : List ℕ → Type 0) (stop : Stop) → FillsNot old 2 stop → Halts old stop (λ bytes. whole (two_at bytes))
+pub two_stops : (old : List ℕ → Type 0) (stop : FeedFault) → FillsNot old 2 stop → StopsAs old stop (λ bytes. or_truncated (two_at bytes))
 unfolding two_at
 two_stops old stop h = stops_short stop h (λ s. record { breach = λ bytes has. number_ends w16 bytes (s.short bytes has) })
 
@@ -118,36 +112,36 @@ one_byte [] n len is = absurd (omega (arith, len))
 one_byte (b ∷ []) n len is = ap (λ (x : ℕ). x ∷ []) (sym is)
 one_byte (b ∷ c ∷ bytes) n len is = absurd (omega (arith, len))
 
-no_bytes : (bytes : List ℕ) → length bytes < 1 → whole (byte_at bytes) ≡ Err Truncated
+no_bytes : (bytes : List ℕ) → length bytes < 1 → or_truncated (byte_at bytes) ≡ Err Truncated
 no_bytes [] lt = refl
 no_bytes (b ∷ bytes) lt = absurd (omega (arith, lt))
 
-pub byte_took : {old new : List ℕ → Type 0} {g h : HashingSink} {part : List ℕ} (n : ℕ) → Moved old new g h part → length part ≡ 1 → n ≡ get_or part 0 0 → Took old new g h (λ bytes. whole (byte_at bytes)) n
+pub byte_took : {old new : List ℕ → Type 0} {g h : HashingSink} {part : List ℕ} (n : ℕ) → Moved old new g h part → length part ≡ 1 → n ≡ get_or part 0 0 → Took old new g h (λ bytes. or_truncated (byte_at bytes)) n
 byte_took {old} {new} {g} {h} {part} n moved len is = record { part = n ∷ []; moved = subst (Moved old new g h) (one_byte part n len is) moved; reads = λ rest. refl }
 
-pub byte_stops : (old : List ℕ → Type 0) (stop : Stop) → FillsNot old 1 stop → Halts old stop (λ bytes. whole (byte_at bytes))
+pub byte_stops : (old : List ℕ → Type 0) (stop : FeedFault) → FillsNot old 1 stop → StopsAs old stop (λ bytes. or_truncated (byte_at bytes))
 byte_stops old stop h = stops_short stop h (λ s. record { breach = λ bytes has. no_bytes bytes (s.short bytes has) })
 
 -- ---- so many bytes
 
-pub bytes_reads : (n : ℕ) (part rest : List ℕ) → length part ≡ n → bytes_at n (part ++ rest) ≡ Ok (part, rest)
-unfolding bytes_at
+pub bytes_reads : (n : ℕ) (part rest : List ℕ) → length part ≡ n → slice_at n (part ++ rest) ≡ Ok (part, rest)
+unfolding slice_at
 bytes_reads n part rest len =
     let long : ltb (length (part ++ rest)) n ≡ false = le-ltb _ _ (omega (arith, length-append part rest, len)) in
     rw (long, take_at part rest n len, drop_at part rest n len) refl
 
-pub bytes_end : (n : ℕ) (bytes : List ℕ) → length bytes < n → bytes_at n bytes ≡ Err Truncated
-unfolding bytes_at
+pub bytes_end : (n : ℕ) (bytes : List ℕ) → length bytes < n → slice_at n bytes ≡ Err Truncated
+unfolding slice_at
 bytes_end n bytes lt = rw (lt-ltb _ _ lt) refl
 
-pub bytes_took : {old new : List ℕ → Type 0} {g h : HashingSink} {part : List ℕ} (n : ℕ) → Moved old new g h part → length part ≡ n → Took old new g h (bytes_at n) part
+pub bytes_took : {old new : List ℕ → Type 0} {g h : HashingSink} {part : List ℕ} (n : ℕ) → Moved old new g h part → length part ≡ n → Took old new g h (slice_at n) part
 bytes_took {old} {new} {g} {h} {part} n moved len = record { part = part; moved = moved; reads = λ rest. bytes_reads n part rest len }
 
-pub bytes_stops : (old : List ℕ → Type 0) (n : ℕ) (stop : Stop) → FillsNot old n stop → Halts old stop (bytes_at n)
+pub bytes_stops : (old : List ℕ → Type 0) (n : ℕ) (stop : FeedFault) → FillsNot old n stop → StopsAs old stop (slice_at n)
 bytes_stops old n stop h = stops_short stop h (λ s. record { breach = λ bytes has. bytes_end n bytes (s.short bytes has) })
 
 -- where some of them were taken before
-pub bytes_stop_behind : {old mid : List ℕ → Type 0} {g h : HashingSink} {part : List ℕ} (n m : ℕ) (stop : Stop) → Moved old mid g h part → length part + m ≤ n → FillsNot mid m stop → Halts old stop (bytes_at n)
+pub bytes_stop_behind : {old mid : List ℕ → Type 0} {g h : HashingSink} {part : List ℕ} (n m : ℕ) (stop : FeedFault) → Moved old mid g h part → length part + m ≤ n → FillsNot mid m stop → StopsAs old stop (slice_at n)
 bytes_stop_behind {old} {mid} {g} {h} {part} n m stop moved le f =
     stops_short stop f (λ s. record {
       breach = λ bytes has.
@@ -157,20 +151,20 @@ bytes_stop_behind {old} {mid} {g} {h} {part} n m stop moved le f =
 
 -- ---- a text
 
-pub text_took : {old mid new : List ℕ → Type 0} {g h k : HashingSink} {part : List ℕ} (n : ℕ) → Took old mid g h (λ bytes. whole (byte_at bytes)) n → Moved mid new h k part → length part ≡ n → Took old new g k text_at part
-unfolding text_at
+pub text_took : {old mid new : List ℕ → Type 0} {g h k : HashingSink} {part : List ℕ} (n : ℕ) → Took old mid g h (λ bytes. or_truncated (byte_at bytes)) n → Moved mid new h k part → length part ≡ n → Took old new g k short_text_at part
+unfolding short_text_at
 text_took {old} {mid} {new} {g} {h} {k} {part} n took moved len = record {
   part = took.part ++ part;
   moved = moved_then took.moved moved;
   reads = λ rest. rw (append_assoc took.part part rest, took.reads (part ++ rest)) (bytes_reads n part rest len);
 }
 
-pub text_stops_first : (old : List ℕ → Type 0) (stop : Stop) → Halts old stop (λ bytes. whole (byte_at bytes)) → Halts old stop text_at
-unfolding text_at
+pub text_stops_first : (old : List ℕ → Type 0) (stop : FeedFault) → StopsAs old stop (λ bytes. or_truncated (byte_at bytes)) → StopsAs old stop short_text_at
+unfolding short_text_at
 text_stops_first old stop h = stops_by stop h (λ fault b. record { breach = λ bytes has. rw (b.breach bytes has) refl })
 
-pub text_stops : {old mid : List ℕ → Type 0} {g h : HashingSink} (n : ℕ) (stop : Stop) → Took old mid g h (λ bytes. whole (byte_at bytes)) n → FillsNot mid n stop → Halts old stop text_at
-unfolding text_at
+pub text_stops : {old mid : List ℕ → Type 0} {g h : HashingSink} (n : ℕ) (stop : FeedFault) → Took old mid g h (λ bytes. or_truncated (byte_at bytes)) n → FillsNot mid n stop → StopsAs old stop short_text_at
+unfolding short_text_at
 text_stops n stop took f =
     stops_short stop f (λ s. record {
       breach = λ bytes has.
@@ -219,12 +213,12 @@ leads_step {A} {B} {a} {b} {c} {x} {y} {z} {p} {q} r f t h = record {
 pub leads_done : {A : Type 0} {a b : List ℕ → Type 0} {x y : HashingSink} {p : Parser A} {q : Parser A} (v : A) → Leads a b x y p q → ((rest : List ℕ) → q rest ≡ Ok (v, rest)) → Took a b x y p v
 leads_done v f h = record { part = f.part; moved = f.moved; reads = λ rest. f.leads rest ∙ h rest }
 
-pub leads_breaks : {A : Type 0} {a b : List ℕ → Type 0} {x y : HashingSink} {p q : List ℕ → Result A FileFault} {fault : FileFault} → Leads a b x y p q → Breaks b q fault → Breaks a p fault
+pub leads_breaks : {A : Type 0} {a b : List ℕ → Type 0} {x y : HashingSink} {p q : List ℕ → Result A FileFault} {fault : FileFault} → Leads a b x y p q → HasBreach b q fault → HasBreach a p fault
 leads_breaks {A} {a} {b} {x} {y} {p} f h = record {
   breach = λ bytes has.
       let l = f.moved.given.left bytes has in
       ap p l.whole ∙ f.leads l.rest ∙ h.breach l.rest l.holds;
 }
 
-pub leads_halts : {A B : Type 0} {a b : List ℕ → Type 0} {x y : HashingSink} {p q : List ℕ → Result A FileFault} {step : List ℕ → Result B FileFault} (stop : Stop) → Leads a b x y p q → Halts b stop step → ((bytes : List ℕ) (fault : FileFault) → step bytes ≡ Err fault → q bytes ≡ Err fault) → Halts a stop p
+pub leads_halts : {A B : Type 0} {a b : List ℕ → Type 0} {x y : HashingSink} {p q : List ℕ → Result A FileFault} {step : List ℕ → Result B FileFault} (stop : FeedFault) → Leads a b x y p q → StopsAs b stop step → ((bytes : List ℕ) (fault : FileFault) → step bytes ≡ Err fault → q bytes ≡ Err fault) → StopsAs a stop p
 leads_halts stop f h k = stops_by stop h (λ fault e. leads_breaks f (record { breach = λ bytes has. k bytes fault (e.breach bytes has) }))

@@ -24,7 +24,7 @@ use Rattle.sessions.proofs.TermLaws.{terms_again, terms_found, version_fits}
 use Rattle.sessions.specs.Spelling.{start, record_bytes, head_bytes, body_bytes, file_of}
 use Rattle.session_file.specs.declared.fault.FileFault.{FileFault}
 use Rattle.session_file.specs.declared.fault.FileFault.TheVariants.{BadMagic, Version, Number, BadDigest, Trailing}
-use Rattle.session_file.specs.Reading.{whole, bytes_at, there, demand, OriginValue, HeadValue, magic, magic_at, head_at, end_at, session_of, records_from, front_after, session_after, file_after, ◌>>=◌}
+use Rattle.session_file.specs.Reading.{or_truncated, slice_at, there, tested, OriginValue, HeadValue, magic, magic_at, head_at, end_at, session_of, records_from, front_after, session_after, file_after, ◌>>=◌}
 use Rattle.session_file.proofs.ReadLaws.{done, ok_is, bind_ok, bind_is, guard_ok, guard_so, there_ok, tested_ok, tested_is, number_takes, number_again, bytes_takes, bytes_again}
 use Rattle.session_file.proofs.RecordReadLaws.{IsReadOver}
 use Rattle.session_file.proofs.TakenLaws.{told_if_taken, taken_if_told}
@@ -81,12 +81,12 @@ pub head_takes : (bytes : List ℕ) (h : HeadValue) (rest : List ℕ) → IsByte
 unfolding head_at
 head_takes bytes h rest fits e =
     let a = bind_ok (magic_at bytes) _ (h, rest) e in
-    let b = bind_ok (whole (two_at a.0)) _ (h, rest) a.2 in
+    let b = bind_ok (or_truncated (two_at a.0)) _ (h, rest) a.2 in
     let c = bind_ok (there Version (terms_with b.0.0) b.0.1) _ (h, rest) b.2 in
-    let d = bind_ok (whole (four_at c.0.1)) _ (h, rest) c.2 in
-    let s = bind_ok (demand (leb d.0.0 9999) Number) _ (h, rest) d.2 in
-    let l = bind_ok (bytes_at 32 d.0.1) _ (h, rest) s.2 in
-    let n = bind_ok (whole (eight_at l.0.1)) _ (h, rest) l.2 in
+    let d = bind_ok (or_truncated (four_at c.0.1)) _ (h, rest) c.2 in
+    let s = bind_ok (tested (leb d.0.0 9999) Number) _ (h, rest) d.2 in
+    let l = bind_ok (slice_at 32 d.0.1) _ (h, rest) s.2 in
+    let n = bind_ok (or_truncated (eight_at l.0.1)) _ (h, rest) l.2 in
     let ta = magic_takes bytes a.0 fits a.1 in
     let tb = number_takes lawful_two a.0 b.0.0 b.0.1 ta.rest_fits b.1 in
     let known = there_ok Version (terms_with b.0.0) b.0.1 c.0.0 c.0.1 c.1 in
@@ -115,20 +115,20 @@ head_again h rest fits =
     let n = four h.number ++ l in
     ap head_at (head_regrouped h rest)
     ∙ bind_is (magic_at (magic ++ (two (version_of h.terms) ++ n))) _ (two (version_of h.terms) ++ n) (magic_again (two (version_of h.terms) ++ n))
-    ∙ bind_is (whole (two_at (two (version_of h.terms) ++ n))) _ (version_of h.terms, n) (number_again lawful_two (version_of h.terms) n (version_fits h.terms))
+    ∙ bind_is (or_truncated (two_at (two (version_of h.terms) ++ n))) _ (version_of h.terms, n) (number_again lawful_two (version_of h.terms) n (version_fits h.terms))
     ∙ bind_is (there Version (terms_with (version_of h.terms)) n) _ (h.terms, n) (ap (λ (o : Option Terms). there Version o n) (terms_again h.terms))
-    ∙ bind_is (whole (four_at n)) _ (h.number, l) (number_again lawful_four h.number l (omega (arith, fits.number)))
-    ∙ bind_is (demand (leb h.number 9999) Number) _ tt (tested_is _ _ (le-leb _ _ fits.number))
-    ∙ bind_is (bytes_at 32 l) _ (h.link, e) (bytes_again 32 h.link e fits.link)
-    ∙ bind_is (whole (eight_at e)) _ (h.count, rest) (number_again lawful_eight h.count rest fits.count)
+    ∙ bind_is (or_truncated (four_at n)) _ (h.number, l) (number_again lawful_four h.number l (omega (arith, fits.number)))
+    ∙ bind_is (tested (leb h.number 9999) Number) _ tt (tested_is _ _ (le-leb _ _ fits.number))
+    ∙ bind_is (slice_at 32 l) _ (h.link, e) (bytes_again 32 h.link e fits.link)
+    ∙ bind_is (or_truncated (eight_at e)) _ (h.count, rest) (number_again lawful_eight h.count rest fits.count)
 
 -- ---- the end
 
 pub end_takes : (body bytes : List ℕ) (u : Unit {0}) (rest : List ℕ) → IsBytes bytes → end_at body bytes ≡ Ok (u, rest) → bytes ≡ sha256 body ++ rest
 unfolding end_at
 end_takes body bytes u rest fits e =
-    let a = bind_ok (bytes_at 32 bytes) _ (u, rest) e in
-    let b = bind_ok (demand (bytes_eq a.0.0 (sha256 body)) BadDigest) _ (u, rest) a.2 in
+    let a = bind_ok (slice_at 32 bytes) _ (u, rest) e in
+    let b = bind_ok (tested (bytes_eq a.0.0 (sha256 body)) BadDigest) _ (u, rest) a.2 in
     let t = bytes_takes 32 bytes a.0.0 a.0.1 fits a.1 in
     let digest : a.0.0 ≡ sha256 body = (bytes_eq-Decides a.0.0 (sha256 body)).0 (tested_ok _ _ b.0 b.1) in
     let left : a.0.1 ≡ rest = ap (λ (x : Unit {0} × List ℕ). x.1) (ok_is (tt, a.0.1) (u, rest) b.2) in
@@ -138,8 +138,8 @@ pub end_again : (body rest : List ℕ) → end_at body (sha256 body ++ rest) ≡
 unfolding end_at
 end_again body rest =
     let same : bytes_eq (sha256 body) (sha256 body) ≡ true = (bytes_eq-Decides (sha256 body) (sha256 body)).1 refl in
-    bind_is (bytes_at 32 (sha256 body ++ rest)) _ (sha256 body, rest) (bytes_again 32 (sha256 body) rest (length-sha256 body))
-    ∙ bind_is (demand (bytes_eq (sha256 body) (sha256 body)) BadDigest) _ tt (tested_is _ _ same)
+    bind_is (slice_at 32 (sha256 body ++ rest)) _ (sha256 body, rest) (bytes_again 32 (sha256 body) rest (length-sha256 body))
+    ∙ bind_is (tested (bytes_eq (sha256 body) (sha256 body)) BadDigest) _ tt (tested_is _ _ same)
 
 -- ---- the file
 
@@ -234,7 +234,7 @@ pub file_breaks : (past : Option SessionValue) (bytes : List ℕ) (fault : FileF
 unfolding file_after
 file_breaks past bytes fault e = breaks (front_after past bytes) e
   where
-    breaks : (r : Result (SessionValue × List ℕ) FileFault) → (r >>= λ s. Ok s.0) ≡ Err fault → (r >>= λ s. demand (eqb (length s.1) 0) Trailing >>= λ u. Ok s.0) ≡ Err fault
+    breaks : (r : Result (SessionValue × List ℕ) FileFault) → (r >>= λ s. Ok s.0) ≡ Err fault → (r >>= λ s. tested (eqb (length s.1) 0) Trailing >>= λ u. Ok s.0) ≡ Err fault
     breaks (Ok x) e = absurd cc
     breaks (Err f) e = cc
 

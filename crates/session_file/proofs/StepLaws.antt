@@ -1,7 +1,7 @@
 -- The parts of a file, read from a feed one behind the other.
 use Rattle.std.proofs.Common.{◌≡◌, ℕ, ◌<◌, ◌≤◌, Bool, true, false, ltb, List, [], ◌++◌, length, take, Option, Some, None, Result, Ok, Err, refl, sym, ap, subst, ◌∙◌, append_assoc, arith}
 use Rattle.std.specs.Prelude.{bytes_eq, IfSome}
-use Rattle.std.proofs.lemmas.Bool.{le-ltb, lt-ltb, le-leb, lt-leb}
+use Rattle.std.proofs.lemmas.Bool.{le-ltb, lt-ltb, le-leb, lt-leb, false_from_ne_true}
 use Rattle.std.proofs.lemmas.List.{take_at, append-nil, length-append}
 use Rattle.std.proofs.lemmas.Slice.Eq.{bytes_eq-Decides}
 use Rattle.byte_readers.specs.Lawful.{IsBytes}
@@ -19,10 +19,10 @@ use Rattle.sessions.specs.Spelling.{file_of, digest_of}
 use Rattle.session_file.specs.declared.fault.FileFault.{FileFault}
 use Rattle.session_file.specs.declared.fault.FileFault.TheVariants.{BadMagic, Version, Truncated, BadDigest, KeyOrder, BadEdge, Result as BadResult, InputKind, Trailing, Device, BadKey, Number, NoPastResult, OutOfMemory}
 use Rattle.devices.specs.declared.hashing.HashingSink.{HashingSink}
-use Rattle.session_file.specs.declared.stop.Stop.{Stop}
+use Rattle.session_file.specs.declared.reading.feed_fault.FeedFault.{FeedFault}
 use Rattle.session_file.specs.Keys.{key_with, mark_with}
-use Rattle.session_file.specs.Reading.{◌>>=◌, magic, Parser, whole, bytes_at, text_at, ItemValue, item_with, item_at, check_place, edges_at, edges_from, value_with_print, result_at, OriginValue, past_value, past_with_print, taken_at, told_at, RestValue, rest_at, behind_item, record_at, records_from, HeadValue, start_at, magic_at, head_at, end_at, session_of, front_after, session_after, file_after, IsUnlessMemory, IsUnlessStopped}
-use Rattle.session_file.specs.Feeding.{Given, IsShort, Moved, Took, Breaks, Halts, TookFront, Feeds, CountsIf, is_device}
+use Rattle.session_file.specs.Reading.{◌>>=◌, magic, Parser, or_truncated, slice_at, short_text_at, ItemValue, item_with, item_at, check_place, edge_list_at, edges_from, value_with_print, result_at, OriginValue, past_value, past_with_print, taken_at, told_at, RestValue, rest_at, placed_item_at, record_at, records_from, HeadValue, start_at, magic_at, head_at, end_at, session_of, front_after, session_after, file_after, IsUnlessMemory, IsUnlessStopped}
+use Rattle.session_file.specs.Feeding.{Given, IsShorter, Moved, Took, HasBreach, StopsAs, FedFront, Feeds, CountsIf, is_device}
 use Rattle.session_file.proofs.ReadLaws.{done, ok_is}
 use Rattle.session_file.proofs.FeedLaws.{At, moved_then, took_at, stops_by}
 use Rattle.session_file.proofs.FileLaws.{magic_again, front_is, front_takes, front_again, file_breaks}
@@ -31,24 +31,24 @@ abbrev broken : {A : Type 0} → FileFault → Result A FileFault
 broken fault = Err fault
 
 abbrev byte : Parser ℕ
-byte bytes = whole (byte_at bytes)
+byte bytes = or_truncated (byte_at bytes)
 
 abbrev two : Parser ℕ
-two bytes = whole (two_at bytes)
+two bytes = or_truncated (two_at bytes)
 
 abbrev four : Parser ℕ
-four bytes = whole (four_at bytes)
+four bytes = or_truncated (four_at bytes)
 
 abbrev eight : Parser ℕ
-eight bytes = whole (eight_at bytes)
+eight bytes = or_truncated (eight_at bytes)
 
 -- ---- a key and its mark
 
-pub item_halts_kind : (a : List ℕ → Type 0) (i : ℕ) (stop : Stop) → Halts a stop byte → Halts a stop (item_at i)
+pub item_halts_kind : (a : List ℕ → Type 0) (i : ℕ) (stop : FeedFault) → StopsAs a stop byte → StopsAs a stop (item_at i)
 unfolding item_at
 item_halts_kind a i stop f = stops_by stop f (λ fault s. record { breach = λ bytes has. rw (s.breach bytes has) refl })
 
-pub item_halts_class : {a b : List ℕ → Type 0} {g h : HashingSink} (i : ℕ) (kind : ℕ) (stop : Stop) → Took a b g h byte kind → Halts b stop text_at → Halts a stop (item_at i)
+pub item_halts_class : {a b : List ℕ → Type 0} {g h : HashingSink} (i : ℕ) (kind : ℕ) (stop : FeedFault) → Took a b g h byte kind → StopsAs b stop short_text_at → StopsAs a stop (item_at i)
 unfolding item_at
 item_halts_class i kind stop p f = stops_by stop f (λ fault s. record {
   breach = λ bytes has.
@@ -56,7 +56,7 @@ item_halts_class i kind stop p f = stops_by stop f (λ fault s. record {
       rw (x.is, s.breach x.rest x.holds) refl;
 })
 
-pub item_halts_member : {a b c : List ℕ → Type 0} {g h k : HashingSink} (i : ℕ) (kind : ℕ) (class : List ℕ) (stop : Stop) → Took a b g h byte kind → Took b c h k text_at class → Halts c stop text_at → Halts a stop (item_at i)
+pub item_halts_member : {a b c : List ℕ → Type 0} {g h k : HashingSink} (i : ℕ) (kind : ℕ) (class : List ℕ) (stop : FeedFault) → Took a b g h byte kind → Took b c h k short_text_at class → StopsAs c stop short_text_at → StopsAs a stop (item_at i)
 unfolding item_at
 item_halts_member i kind class stop p q f = stops_by stop f (λ fault s. record {
   breach = λ bytes has.
@@ -65,7 +65,7 @@ item_halts_member i kind class stop p q f = stops_by stop f (λ fault s. record 
       rw (x.is, y.is, s.breach y.rest y.holds) refl;
 })
 
-pub item_halts_mark : {a b c d : List ℕ → Type 0} {g h k l : HashingSink} (i : ℕ) (kind : ℕ) (class member : List ℕ) (stop : Stop) → Took a b g h byte kind → Took b c h k text_at class → Took c d k l text_at member → Halts d stop byte → Halts a stop (item_at i)
+pub item_halts_mark : {a b c d : List ℕ → Type 0} {g h k l : HashingSink} (i : ℕ) (kind : ℕ) (class member : List ℕ) (stop : FeedFault) → Took a b g h byte kind → Took b c h k short_text_at class → Took c d k l short_text_at member → StopsAs d stop byte → StopsAs a stop (item_at i)
 unfolding item_at
 item_halts_mark i kind class member stop p q r f = stops_by stop f (λ fault s. record {
   breach = λ bytes has.
@@ -75,7 +75,7 @@ item_halts_mark i kind class member stop p q r f = stops_by stop f (λ fault s. 
       rw (x.is, y.is, z.is, s.breach z.rest z.holds) refl;
 })
 
-pub item_breaks : {a b c d e : List ℕ → Type 0} {g h k l m : HashingSink} (i : ℕ) (kind : ℕ) (class member : List ℕ) (mark : ℕ) → Took a b g h byte kind → Took b c h k text_at class → Took c d k l text_at member → Took d e l m byte mark → item_with (key_with kind class member) (mark_with mark) ≡ None → Breaks a (item_at i) (BadKey i)
+pub item_breaks : {a b c d e : List ℕ → Type 0} {g h k l m : HashingSink} (i : ℕ) (kind : ℕ) (class member : List ℕ) (mark : ℕ) → Took a b g h byte kind → Took b c h k short_text_at class → Took c d k l short_text_at member → Took d e l m byte mark → item_with (key_with kind class member) (mark_with mark) ≡ None → HasBreach a (item_at i) (BadKey i)
 unfolding item_at
 item_breaks i kind class member mark p q r s none = record {
   breach = λ bytes has.
@@ -86,7 +86,7 @@ item_breaks i kind class member mark p q r s none = record {
       rw (x.is, y.is, z.is, w.is, none) refl;
 }
 
-pub item_took : {a b c d e : List ℕ → Type 0} {g h k l m : HashingSink} (i : ℕ) (kind : ℕ) (class member : List ℕ) (mark : ℕ) (item : ItemValue) → Took a b g h byte kind → Took b c h k text_at class → Took c d k l text_at member → Took d e l m byte mark → item_with (key_with kind class member) (mark_with mark) ≡ Some item → Took a e g m (item_at i) item
+pub item_took : {a b c d e : List ℕ → Type 0} {g h k l m : HashingSink} (i : ℕ) (kind : ℕ) (class member : List ℕ) (mark : ℕ) (item : ItemValue) → Took a b g h byte kind → Took b c h k short_text_at class → Took c d k l short_text_at member → Took d e l m byte mark → item_with (key_with kind class member) (mark_with mark) ≡ Some item → Took a e g m (item_at i) item
 unfolding item_at
 item_took i kind class member mark item p q r s is = record {
   part = p.part ++ (q.part ++ (r.part ++ s.part));
@@ -97,11 +97,11 @@ item_took i kind class member mark item p q r s is = record {
 }
     -- ---- a result
 
-pub result_halts_print : (a : List ℕ → Type 0) (i : ℕ) (kind : Kind) (stop : Stop) → Halts a stop (bytes_at 32) → Halts a stop (result_at i kind)
+pub result_halts_print : (a : List ℕ → Type 0) (i : ℕ) (kind : Kind) (stop : FeedFault) → StopsAs a stop (slice_at 32) → StopsAs a stop (result_at i kind)
 unfolding result_at
 result_halts_print a i kind stop f = stops_by stop f (λ fault s. record { breach = λ bytes has. rw (s.breach bytes has) refl })
 
-pub result_halts_count : {a b : List ℕ → Type 0} {g h : HashingSink} (i : ℕ) (kind : Kind) (print : List ℕ) (stop : Stop) → Took a b g h (bytes_at 32) print → Halts b stop eight → Halts a stop (result_at i kind)
+pub result_halts_count : {a b : List ℕ → Type 0} {g h : HashingSink} (i : ℕ) (kind : Kind) (print : List ℕ) (stop : FeedFault) → Took a b g h (slice_at 32) print → StopsAs b stop eight → StopsAs a stop (result_at i kind)
 unfolding result_at
 result_halts_count i kind print stop p f = stops_by stop f (λ fault s. record {
   breach = λ bytes has.
@@ -109,7 +109,7 @@ result_halts_count i kind print stop p f = stops_by stop f (λ fault s. record {
       rw (x.is, s.breach x.rest x.holds) refl;
 })
 
-pub result_halts_text : {a b c : List ℕ → Type 0} {g h k : HashingSink} (i : ℕ) (kind : Kind) (print : List ℕ) (n : ℕ) (stop : Stop) → Took a b g h (bytes_at 32) print → Took b c h k eight n → Halts c stop (bytes_at n) → Halts a stop (result_at i kind)
+pub result_halts_text : {a b c : List ℕ → Type 0} {g h k : HashingSink} (i : ℕ) (kind : Kind) (print : List ℕ) (n : ℕ) (stop : FeedFault) → Took a b g h (slice_at 32) print → Took b c h k eight n → StopsAs c stop (slice_at n) → StopsAs a stop (result_at i kind)
 unfolding result_at
 result_halts_text i kind print n stop p q f = stops_by stop f (λ fault s. record {
   breach = λ bytes has.
@@ -118,7 +118,7 @@ result_halts_text i kind print n stop p q f = stops_by stop f (λ fault s. recor
       rw (x.is, y.is, s.breach y.rest y.holds) refl;
 })
 
-pub result_breaks : {a b c d : List ℕ → Type 0} {g h k l : HashingSink} (i : ℕ) (kind : Kind) (print : List ℕ) (n : ℕ) (text : List ℕ) → Took a b g h (bytes_at 32) print → Took b c h k eight n → Took c d k l (bytes_at n) text → value_with_print print (decoding kind text) ≡ None → Breaks a (result_at i kind) (BadResult i)
+pub result_breaks : {a b c d : List ℕ → Type 0} {g h k l : HashingSink} (i : ℕ) (kind : Kind) (print : List ℕ) (n : ℕ) (text : List ℕ) → Took a b g h (slice_at 32) print → Took b c h k eight n → Took c d k l (slice_at n) text → value_with_print print (decoding kind text) ≡ None → HasBreach a (result_at i kind) (BadResult i)
 unfolding result_at
 result_breaks i kind print n text p q r none = record {
   breach = λ bytes has.
@@ -128,7 +128,7 @@ result_breaks i kind print n text p q r none = record {
       rw (x.is, y.is, z.is, none) refl;
 }
 
-pub result_took : {a b c d : List ℕ → Type 0} {g h k l : HashingSink} (i : ℕ) (kind : Kind) (print : List ℕ) (n : ℕ) (text : List ℕ) (v : Value) → Took a b g h (bytes_at 32) print → Took b c h k eight n → Took c d k l (bytes_at n) text → value_with_print print (decoding kind text) ≡ Some v → Took a d g l (result_at i kind) v
+pub result_took : {a b c d : List ℕ → Type 0} {g h k l : HashingSink} (i : ℕ) (kind : Kind) (print : List ℕ) (n : ℕ) (text : List ℕ) (v : Value) → Took a b g h (slice_at 32) print → Took b c h k eight n → Took c d k l (slice_at n) text → value_with_print print (decoding kind text) ≡ Some v → Took a d g l (result_at i kind) v
 unfolding result_at
 result_took i kind print n text v p q r is = record {
   part = p.part ++ (q.part ++ r.part);
@@ -139,11 +139,11 @@ result_took i kind print n text v p q r is = record {
 }
     -- ---- a result of the previous session
 
-pub taken_halts : (a : List ℕ → Type 0) (i : ℕ) (had : Option Value) (stop : Stop) → Halts a stop (bytes_at 32) → Halts a stop (taken_at i had)
+pub taken_halts : (a : List ℕ → Type 0) (i : ℕ) (had : Option Value) (stop : FeedFault) → StopsAs a stop (slice_at 32) → StopsAs a stop (taken_at i had)
 unfolding taken_at
 taken_halts a i had stop f = stops_by stop f (λ fault s. record { breach = λ bytes has. rw (s.breach bytes has) refl })
 
-pub taken_breaks : {a b : List ℕ → Type 0} {g h : HashingSink} (i : ℕ) (had : Option Value) (print : List ℕ) → Took a b g h (bytes_at 32) print → past_with_print print had ≡ None → Breaks a (taken_at i had) (NoPastResult i)
+pub taken_breaks : {a b : List ℕ → Type 0} {g h : HashingSink} (i : ℕ) (had : Option Value) (print : List ℕ) → Took a b g h (slice_at 32) print → past_with_print print had ≡ None → HasBreach a (taken_at i had) (NoPastResult i)
 unfolding taken_at
 taken_breaks i had print p none = record {
   breach = λ bytes has.
@@ -151,44 +151,44 @@ taken_breaks i had print p none = record {
       rw (x.is, none) refl;
 }
 
-pub taken_took : {a b : List ℕ → Type 0} {g h : HashingSink} (i : ℕ) (had : Option Value) (print : List ℕ) (v : Value) → Took a b g h (bytes_at 32) print → past_with_print print had ≡ Some v → Took a b g h (taken_at i had) v
+pub taken_took : {a b : List ℕ → Type 0} {g h : HashingSink} (i : ℕ) (had : Option Value) (print : List ℕ) (v : Value) → Took a b g h (slice_at 32) print → past_with_print print had ≡ Some v → Took a b g h (taken_at i had) v
 unfolding taken_at
 taken_took i had print v p is = record { part = p.part; moved = p.moved; reads = λ rest. rw (p.reads rest, is) refl }
 
-pub told_by_print : {X : Type 0} (a b : List ℕ → Type 0) (g h : HashingSink) (view : X → Value) (r : Result X Stop) (origin : OriginValue) (i : ℕ) (item : ItemValue) → ends_with_print origin.form item.mark ≡ true → Feeds a b g h view r (taken_at i (past_value origin.past item.key)) → Feeds a b g h view r (told_at origin i item)
+pub told_by_print : {X : Type 0} (a b : List ℕ → Type 0) (g h : HashingSink) (view : X → Value) (r : Result X FeedFault) (origin : OriginValue) (i : ℕ) (item : ItemValue) → ends_with_print origin.form item.mark ≡ true → Feeds a b g h view r (taken_at i (past_value origin.past item.key)) → Feeds a b g h view r (told_at origin i item)
 unfolding told_at
 told_by_print a b g h view r origin i item ends f = rw ends f
 
-pub told_by_result : {X : Type 0} (a b : List ℕ → Type 0) (g h : HashingSink) (view : X → Value) (r : Result X Stop) (origin : OriginValue) (i : ℕ) (item : ItemValue) → ends_with_print origin.form item.mark ≡ false → Feeds a b g h view r (result_at i (kind_of item.key)) → Feeds a b g h view r (told_at origin i item)
+pub told_by_result : {X : Type 0} (a b : List ℕ → Type 0) (g h : HashingSink) (view : X → Value) (r : Result X FeedFault) (origin : OriginValue) (i : ℕ) (item : ItemValue) → ends_with_print origin.form item.mark ≡ false → Feeds a b g h view r (result_at i (kind_of item.key)) → Feeds a b g h view r (told_at origin i item)
 unfolding told_at
 told_by_result a b g h view r origin i item other f = rw other f
     -- ---- edges, and what stands behind a key
 
-pub edges_halt_count : (a : List ℕ → Type 0) (front : List RecordValue) (key : Key) (stop : Stop) → Halts a stop eight → Halts a stop (edges_at front key)
-unfolding edges_at
+pub edges_halt_count : (a : List ℕ → Type 0) (front : List RecordValue) (key : Key) (stop : FeedFault) → StopsAs a stop eight → StopsAs a stop (edge_list_at front key)
+unfolding edge_list_at
 edges_halt_count a front key stop f = stops_by stop f (λ fault s. record { breach = λ bytes has. rw (s.breach bytes has) refl })
 
-pub edges_halt : {a b : List ℕ → Type 0} {g h : HashingSink} (front : List RecordValue) (key : Key) (n : ℕ) (stop : Stop) → Took a b g h eight n → Halts b stop (edges_from front key [] n) → Halts a stop (edges_at front key)
-unfolding edges_at
+pub edges_halt : {a b : List ℕ → Type 0} {g h : HashingSink} (front : List RecordValue) (key : Key) (n : ℕ) (stop : FeedFault) → Took a b g h eight n → StopsAs b stop (edges_from front key [] n) → StopsAs a stop (edge_list_at front key)
+unfolding edge_list_at
 edges_halt front key n stop p f = stops_by stop f (λ fault s. record {
   breach = λ bytes has.
       let x = took_at p bytes has in
       rw (x.is) (s.breach x.rest x.holds);
 })
 
-pub edges_took : {a b c : List ℕ → Type 0} {g h k : HashingSink} (front : List RecordValue) (key : Key) (n : ℕ) (edges : List ℕ) → Took a b g h eight n → Took b c h k (edges_from front key [] n) edges → Took a c g k (edges_at front key) edges
-unfolding edges_at
+pub edges_took : {a b c : List ℕ → Type 0} {g h k : HashingSink} (front : List RecordValue) (key : Key) (n : ℕ) (edges : List ℕ) → Took a b g h eight n → Took b c h k (edges_from front key [] n) edges → Took a c g k (edge_list_at front key) edges
+unfolding edge_list_at
 edges_took front key n edges p q = record {
   part = p.part ++ q.part;
   moved = moved_then p.moved q.moved;
   reads = λ rest. rw (append_assoc p.part q.part rest, p.reads (q.part ++ rest)) (q.reads rest);
 }
 
-pub rest_halts_edges : (a : List ℕ → Type 0) (origin : OriginValue) (front : List RecordValue) (item : ItemValue) (stop : Stop) → Halts a stop (edges_at front item.key) → Halts a stop (rest_at origin front item)
+pub rest_halts_edges : (a : List ℕ → Type 0) (origin : OriginValue) (front : List RecordValue) (item : ItemValue) (stop : FeedFault) → StopsAs a stop (edge_list_at front item.key) → StopsAs a stop (rest_at origin front item)
 unfolding rest_at
 rest_halts_edges a origin front item stop f = stops_by stop f (λ fault s. record { breach = λ bytes has. rw (s.breach bytes has) refl })
 
-pub rest_halts : {a b : List ℕ → Type 0} {g h : HashingSink} (origin : OriginValue) (front : List RecordValue) (item : ItemValue) (edges : List ℕ) (stop : Stop) → Took a b g h (edges_at front item.key) edges → Halts b stop (told_at origin (length front) item) → Halts a stop (rest_at origin front item)
+pub rest_halts : {a b : List ℕ → Type 0} {g h : HashingSink} (origin : OriginValue) (front : List RecordValue) (item : ItemValue) (edges : List ℕ) (stop : FeedFault) → Took a b g h (edge_list_at front item.key) edges → StopsAs b stop (told_at origin (length front) item) → StopsAs a stop (rest_at origin front item)
 unfolding rest_at
 rest_halts origin front item edges stop p f = stops_by stop f (λ fault s. record {
   breach = λ bytes has.
@@ -196,7 +196,7 @@ rest_halts origin front item edges stop p f = stops_by stop f (λ fault s. recor
       rw (x.is, s.breach x.rest x.holds) refl;
 })
 
-pub rest_took : {a b c : List ℕ → Type 0} {g h k : HashingSink} (origin : OriginValue) (front : List RecordValue) (item : ItemValue) (edges : List ℕ) (v : Value) → Took a b g h (edges_at front item.key) edges → Took b c h k (told_at origin (length front) item) v → Took a c g k (rest_at origin front item) (record { edges = edges; value = v })
+pub rest_took : {a b c : List ℕ → Type 0} {g h k : HashingSink} (origin : OriginValue) (front : List RecordValue) (item : ItemValue) (edges : List ℕ) (v : Value) → Took a b g h (edge_list_at front item.key) edges → Took b c h k (told_at origin (length front) item) v → Took a c g k (rest_at origin front item) (record { edges = edges; value = v })
 unfolding rest_at
 rest_took origin front item edges v p q = record {
   part = p.part ++ q.part;
@@ -205,20 +205,28 @@ rest_took origin front item edges v p q = record {
 }
     -- ---- a record
 
-pub record_halts_item : (a : List ℕ → Type 0) (origin : OriginValue) (front : List RecordValue) (stop : Stop) → Halts a stop (item_at (length front)) → Halts a stop (record_at origin front)
+-- a key and its mark, where these may follow the records in front
+pub placed_halts : (a : List ℕ → Type 0) (front : List RecordValue) (stop : FeedFault) → StopsAs a stop (item_at (length front)) → StopsAs a stop (placed_item_at front)
+unfolding placed_item_at
+placed_halts a front stop f = stops_by stop f (λ fault s. record { breach = λ bytes has. rw (s.breach bytes has) refl })
+
+pub placed_breaks : {a b : List ℕ → Type 0} {g h : HashingSink} (front : List RecordValue) (item : ItemValue) (fault : FileFault) → Took a b g h (item_at (length front)) item → check_place front item ≡ Err fault → HasBreach a (placed_item_at front) fault
+unfolding placed_item_at
+placed_breaks front item fault p f = record {
+  breach = λ bytes has.
+      let x = took_at p bytes has in
+      rw (x.is, f) refl;
+}
+
+pub placed_took : {a b : List ℕ → Type 0} {g h : HashingSink} (front : List RecordValue) (item : ItemValue) → Took a b g h (item_at (length front)) item → check_place front item ≡ Ok tt → Took a b g h (placed_item_at front) item
+unfolding placed_item_at
+placed_took front item p placed = record { part = p.part; moved = p.moved; reads = λ rest. rw (p.reads rest, placed) refl }
+
+pub record_halts_item : (a : List ℕ → Type 0) (origin : OriginValue) (front : List RecordValue) (stop : FeedFault) → StopsAs a stop (placed_item_at front) → StopsAs a stop (record_at origin front)
 unfolding record_at
 record_halts_item a origin front stop f = stops_by stop f (λ fault s. record { breach = λ bytes has. rw (s.breach bytes has) refl })
 
-pub behind_breaks : (a : List ℕ → Type 0) (origin : OriginValue) (front : List RecordValue) (item : ItemValue) (fault : FileFault) → check_place front item ≡ Err fault → Breaks a (behind_item origin front item) fault
-unfolding behind_item
-behind_breaks a origin front item fault f = record { breach = λ bytes has. rw f refl }
-
-pub behind_feeds : {X : Type 0} (a b : List ℕ → Type 0) (g h : HashingSink) (origin : OriginValue) (front : List RecordValue) (item : ItemValue) (view : X → RestValue) (r : Result X Stop) → check_place front item ≡ Ok tt → Feeds a b g h view r (rest_at origin front item) → Feeds a b g h view r (behind_item origin front item)
-unfolding behind_item
-behind_feeds a b g h origin front item view (Ok x) placed q = record { part = q.part; moved = q.moved; reads = λ rest. rw placed (q.reads rest) }
-behind_feeds a b g h origin front item view (Err stop) placed f = stops_by stop f (λ fault s. record { breach = λ bytes has. rw placed (s.breach bytes has) })
-
-pub record_halts : {a b : List ℕ → Type 0} {g h : HashingSink} (origin : OriginValue) (front : List RecordValue) (item : ItemValue) (stop : Stop) → Took a b g h (item_at (length front)) item → Halts b stop (behind_item origin front item) → Halts a stop (record_at origin front)
+pub record_halts : {a b : List ℕ → Type 0} {g h : HashingSink} (origin : OriginValue) (front : List RecordValue) (item : ItemValue) (stop : FeedFault) → Took a b g h (placed_item_at front) item → StopsAs b stop (rest_at origin front item) → StopsAs a stop (record_at origin front)
 unfolding record_at
 record_halts origin front item stop p f = stops_by stop f (λ fault s. record {
   breach = λ bytes has.
@@ -226,7 +234,7 @@ record_halts origin front item stop p f = stops_by stop f (λ fault s. record {
       rw (x.is, s.breach x.rest x.holds) refl;
 })
 
-pub record_took : {a b c : List ℕ → Type 0} {g h k : HashingSink} (origin : OriginValue) (front : List RecordValue) (item : ItemValue) (r : RestValue) → Took a b g h (item_at (length front)) item → Took b c h k (behind_item origin front item) r → Took a c g k (record_at origin front) (record { key = item.key; mark = item.mark; edges = r.edges; value = r.value })
+pub record_took : {a b c : List ℕ → Type 0} {g h k : HashingSink} (origin : OriginValue) (front : List RecordValue) (item : ItemValue) (r : RestValue) → Took a b g h (placed_item_at front) item → Took b c h k (rest_at origin front item) r → Took a c g k (record_at origin front) (record { key = item.key; mark = item.mark; edges = r.edges; value = r.value })
 unfolding record_at
 record_took origin front item r p q = record {
   part = p.part ++ q.part;
@@ -247,10 +255,6 @@ start_not : (r : Result (List ℕ) FileFault) (fault : FileFault) → (r >>= λ 
 start_not (Ok x) fault e = absurd cc
 start_not (Err f) fault e = cc
 
-not_true : (x : Bool) → (x ≡ true → ⊥) → x ≡ false
-not_true true f = absurd (f refl)
-not_true false f = refl
-
 pub start_took : {a b : List ℕ → Type 0} {g h : HashingSink} {part : List ℕ} → Moved a b g h part → part ≡ magic → Took a b g h start_at tt
 unfolding magic_at
 start_took {a} {b} {g} {h} {part} moved is = record {
@@ -259,26 +263,26 @@ start_took {a} {b} {g} {h} {part} moved is = record {
   reads = λ rest. ap (λ (r : Result (List ℕ) FileFault). r >>= λ x. started x) (magic_again rest);
 }
 
-pub start_breaks : {a b : List ℕ → Type 0} {g h : HashingSink} {part : List ℕ} → Moved a b g h part → length part ≡ 4 → (part ≡ magic → ⊥) → Breaks a start_at BadMagic
+pub start_breaks : {a b : List ℕ → Type 0} {g h : HashingSink} {part : List ℕ} → Moved a b g h part → length part ≡ 4 → (part ≡ magic → ⊥) → HasBreach a start_at BadMagic
 unfolding magic_at
 start_breaks {a} {b} {g} {h} {part} moved len not_magic = record {
   breach = λ bytes has.
       let l = moved.given.left bytes has in
       let long : ltb (length bytes) 4 ≡ false = le-ltb _ _ (omega (arith, ap (λ (xs : List ℕ). length xs) l.whole, length-append part l.rest, len)) in
       let four : take 4 bytes ≡ part = ap (λ (xs : List ℕ). take 4 xs) l.whole ∙ take_at part l.rest 4 len in
-      let differs : bytes_eq (take 4 bytes) magic ≡ false = not_true _ (λ e. not_magic (sym four ∙ (bytes_eq-Decides (take 4 bytes) magic).0 e)) in
+      let differs : bytes_eq (take 4 bytes) magic ≡ false = false_from_ne_true _ (λ e. not_magic (sym four ∙ (bytes_eq-Decides (take 4 bytes) magic).0 e)) in
       rw (long, differs) refl;
 }
 
-pub start_short : {a : List ℕ → Type 0} → IsShort a 4 → Breaks a start_at BadMagic
+pub start_short : {a : List ℕ → Type 0} → IsShorter a 4 → HasBreach a start_at BadMagic
 unfolding magic_at
 start_short f = record { breach = λ bytes has. rw (lt-ltb _ _ (f.short bytes has)) refl }
 
-pub head_halts_start : (a : List ℕ → Type 0) (stop : Stop) → Halts a stop start_at → Halts a stop head_at
+pub head_halts_start : (a : List ℕ → Type 0) (stop : FeedFault) → StopsAs a stop start_at → StopsAs a stop head_at
 unfolding head_at
 head_halts_start a stop x = stops_by stop x (λ fault s. record { breach = λ bytes has. rw (start_not (magic_at bytes) fault (s.breach bytes has)) refl })
 
-pub head_halts_version : {a b : List ℕ → Type 0} {g h : HashingSink} (stop : Stop) → Took a b g h start_at tt → Halts b stop two → Halts a stop head_at
+pub head_halts_version : {a b : List ℕ → Type 0} {g h : HashingSink} (stop : FeedFault) → Took a b g h start_at tt → StopsAs b stop two → StopsAs a stop head_at
 unfolding head_at
 head_halts_version stop p x = stops_by stop x (λ fault s. record {
   breach = λ bytes has.
@@ -286,7 +290,7 @@ head_halts_version stop p x = stops_by stop x (λ fault s. record {
       rw (start_is (magic_at bytes) u.rest tt u.is, s.breach u.rest u.holds) refl;
 })
 
-pub head_other_version : {a b c : List ℕ → Type 0} {g h k : HashingSink} (version : ℕ) → Took a b g h start_at tt → Took b c h k two version → terms_with version ≡ None → Breaks a head_at Version
+pub head_other_version : {a b c : List ℕ → Type 0} {g h k : HashingSink} (version : ℕ) → Took a b g h start_at tt → Took b c h k two version → terms_with version ≡ None → HasBreach a head_at Version
 unfolding head_at
 head_other_version version p q other = record {
   breach = λ bytes has.
@@ -295,7 +299,7 @@ head_other_version version p q other = record {
       rw (start_is (magic_at bytes) u.rest tt u.is, v.is, other) refl;
 }
 
-pub head_halts_number : {a b c : List ℕ → Type 0} {g h k : HashingSink} (version : ℕ) (terms : Terms) (stop : Stop) → Took a b g h start_at tt → Took b c h k two version → terms_with version ≡ Some terms → Halts c stop four → Halts a stop head_at
+pub head_halts_number : {a b c : List ℕ → Type 0} {g h k : HashingSink} (version : ℕ) (terms : Terms) (stop : FeedFault) → Took a b g h start_at tt → Took b c h k two version → terms_with version ≡ Some terms → StopsAs c stop four → StopsAs a stop head_at
 unfolding head_at
 head_halts_number version terms stop p q known x = stops_by stop x (λ fault s. record {
   breach = λ bytes has.
@@ -304,7 +308,7 @@ head_halts_number version terms stop p q known x = stops_by stop x (λ fault s. 
       rw (start_is (magic_at bytes) u.rest tt u.is, v.is, known, s.breach v.rest v.holds) refl;
 })
 
-pub head_other_number : {a b c d : List ℕ → Type 0} {g h k l : HashingSink} (version : ℕ) (terms : Terms) (number : ℕ) → Took a b g h start_at tt → Took b c h k two version → terms_with version ≡ Some terms → Took c d k l four number → 9999 < number → Breaks a head_at Number
+pub head_other_number : {a b c d : List ℕ → Type 0} {g h k l : HashingSink} (version : ℕ) (terms : Terms) (number : ℕ) → Took a b g h start_at tt → Took b c h k two version → terms_with version ≡ Some terms → Took c d k l four number → 9999 < number → HasBreach a head_at Number
 unfolding head_at
 head_other_number version terms number p q known r large = record {
   breach = λ bytes has.
@@ -314,7 +318,7 @@ head_other_number version terms number p q known r large = record {
       rw (start_is (magic_at bytes) u.rest tt u.is, v.is, known, w.is, lt-leb number 9999 large) refl;
 }
 
-pub head_halts_link : {a b c d : List ℕ → Type 0} {g h k l : HashingSink} (version : ℕ) (terms : Terms) (number : ℕ) (stop : Stop) → Took a b g h start_at tt → Took b c h k two version → terms_with version ≡ Some terms → Took c d k l four number → number ≤ 9999 → Halts d stop (bytes_at 32) → Halts a stop head_at
+pub head_halts_link : {a b c d : List ℕ → Type 0} {g h k l : HashingSink} (version : ℕ) (terms : Terms) (number : ℕ) (stop : FeedFault) → Took a b g h start_at tt → Took b c h k two version → terms_with version ≡ Some terms → Took c d k l four number → number ≤ 9999 → StopsAs d stop (slice_at 32) → StopsAs a stop head_at
 unfolding head_at
 head_halts_link version terms number stop p q known r small x = stops_by stop x (λ fault s. record {
   breach = λ bytes has.
@@ -324,7 +328,7 @@ head_halts_link version terms number stop p q known r small x = stops_by stop x 
       rw (start_is (magic_at bytes) u.rest tt u.is, v.is, known, w.is, le-leb number 9999 small, s.breach w.rest w.holds) refl;
 })
 
-pub head_halts_count : {a b c d e : List ℕ → Type 0} {g h k l m : HashingSink} (version : ℕ) (terms : Terms) (number : ℕ) (link : List ℕ) (stop : Stop) → Took a b g h start_at tt → Took b c h k two version → terms_with version ≡ Some terms → Took c d k l four number → number ≤ 9999 → Took d e l m (bytes_at 32) link → Halts e stop eight → Halts a stop head_at
+pub head_halts_count : {a b c d e : List ℕ → Type 0} {g h k l m : HashingSink} (version : ℕ) (terms : Terms) (number : ℕ) (link : List ℕ) (stop : FeedFault) → Took a b g h start_at tt → Took b c h k two version → terms_with version ≡ Some terms → Took c d k l four number → number ≤ 9999 → Took d e l m (slice_at 32) link → StopsAs e stop eight → StopsAs a stop head_at
 unfolding head_at
 head_halts_count version terms number link stop p q known r small t x = stops_by stop x (λ fault s. record {
   breach = λ bytes has.
@@ -335,7 +339,7 @@ head_halts_count version terms number link stop p q known r small t x = stops_by
       rw (start_is (magic_at bytes) u.rest tt u.is, v.is, known, w.is, le-leb number 9999 small, z.is, s.breach z.rest z.holds) refl;
 })
 
-pub head_took : {a b c d e f : List ℕ → Type 0} {g h k l m o : HashingSink} (version : ℕ) (terms : Terms) (number : ℕ) (link : List ℕ) (count : ℕ) → Took a b g h start_at tt → Took b c h k two version → terms_with version ≡ Some terms → Took c d k l four number → number ≤ 9999 → Took d e l m (bytes_at 32) link → Took e f m o eight count → Took a f g o head_at (record { terms = terms; number = number; link = link; count = count })
+pub head_took : {a b c d e f : List ℕ → Type 0} {g h k l m o : HashingSink} (version : ℕ) (terms : Terms) (number : ℕ) (link : List ℕ) (count : ℕ) → Took a b g h start_at tt → Took b c h k two version → terms_with version ≡ Some terms → Took c d k l four number → number ≤ 9999 → Took d e l m (slice_at 32) link → Took e f m o eight count → Took a f g o head_at (record { terms = terms; number = number; link = link; count = count })
 unfolding head_at
 head_took version terms number link count p q known r small t y = record {
   part = p.part ++ (q.part ++ (r.part ++ (t.part ++ y.part)));
@@ -351,20 +355,20 @@ head_took version terms number link count p q known r small t y = record {
 
 -- ---- the digest of all before it
 
-pub end_halts : (a : List ℕ → Type 0) (body : List ℕ) (stop : Stop) → Halts a stop (bytes_at 32) → Halts a stop (end_at body)
+pub end_halts : (a : List ℕ → Type 0) (body : List ℕ) (stop : FeedFault) → StopsAs a stop (slice_at 32) → StopsAs a stop (end_at body)
 unfolding end_at
 end_halts a body stop f = stops_by stop f (λ fault s. record { breach = λ bytes has. rw (s.breach bytes has) refl })
 
-pub end_differs : {a b : List ℕ → Type 0} {g h : HashingSink} (body : List ℕ) (digest : List ℕ) → Took a b g h (bytes_at 32) digest → (digest ≡ sha256 body → ⊥) → Breaks a (end_at body) BadDigest
+pub end_differs : {a b : List ℕ → Type 0} {g h : HashingSink} (body : List ℕ) (digest : List ℕ) → Took a b g h (slice_at 32) digest → (digest ≡ sha256 body → ⊥) → HasBreach a (end_at body) BadDigest
 unfolding end_at
 end_differs body digest p other = record {
   breach = λ bytes has.
       let x = took_at p bytes has in
-      let differs : bytes_eq digest (sha256 body) ≡ false = not_true _ (λ e. other ((bytes_eq-Decides digest (sha256 body)).0 e)) in
+      let differs : bytes_eq digest (sha256 body) ≡ false = false_from_ne_true _ (λ e. other ((bytes_eq-Decides digest (sha256 body)).0 e)) in
       rw (x.is, differs) refl;
 }
 
-pub end_took : {a b : List ℕ → Type 0} {g h : HashingSink} (body : List ℕ) (digest : List ℕ) → Took a b g h (bytes_at 32) digest → digest ≡ sha256 body → Took a b g h (end_at body) tt
+pub end_took : {a b : List ℕ → Type 0} {g h : HashingSink} (body : List ℕ) (digest : List ℕ) → Took a b g h (slice_at 32) digest → digest ≡ sha256 body → Took a b g h (end_at body) tt
 unfolding end_at
 end_took body digest p is =
     let same : bytes_eq digest (sha256 body) ≡ true = (bytes_eq-Decides digest (sha256 body)).1 is in
@@ -375,11 +379,11 @@ end_took body digest p is =
 abbrev over : Option SessionValue → HeadValue → OriginValue
 over past head = record { past = past; form = head.terms.form }
 
-pub front_halts_head : (past : Option SessionValue) (a : List ℕ → Type 0) (stop : Stop) → Halts a stop head_at → Halts a stop (front_after past)
+pub front_halts_head : (past : Option SessionValue) (a : List ℕ → Type 0) (stop : FeedFault) → StopsAs a stop head_at → StopsAs a stop (front_after past)
 unfolding front_after
 front_halts_head past a stop f = stops_by stop f (λ fault s. record { breach = λ bytes has. rw (s.breach bytes has) refl })
 
-pub front_halts_records : {a b : List ℕ → Type 0} {g h : HashingSink} (past : Option SessionValue) (head : HeadValue) (stop : Stop) → Took a b g h head_at head → Halts b stop (records_from (over past head) [] head.count) → Halts a stop (front_after past)
+pub front_halts_records : {a b : List ℕ → Type 0} {g h : HashingSink} (past : Option SessionValue) (head : HeadValue) (stop : FeedFault) → Took a b g h head_at head → StopsAs b stop (records_from (over past head) [] head.count) → StopsAs a stop (front_after past)
 unfolding front_after
 front_halts_records past head stop p f = stops_by stop f (λ fault s. record {
   breach = λ bytes has.
@@ -387,7 +391,7 @@ front_halts_records past head stop p f = stops_by stop f (λ fault s. record {
       rw (x.is, s.breach x.rest x.holds) refl;
 })
 
-pub front_halts_end : {a b c : List ℕ → Type 0} {g h k : HashingSink} (past : Option SessionValue) (head : HeadValue) (records : List RecordValue) (stop : Stop) (p : Took a b g h head_at head) (q : Took b c h k (records_from (over past head) [] head.count) records) → Halts c stop (end_at (p.part ++ q.part)) → Halts a stop (front_after past)
+pub front_halts_end : {a b c : List ℕ → Type 0} {g h k : HashingSink} (past : Option SessionValue) (head : HeadValue) (records : List RecordValue) (stop : FeedFault) (p : Took a b g h head_at head) (q : Took b c h k (records_from (over past head) [] head.count) records) → StopsAs c stop (end_at (p.part ++ q.part)) → StopsAs a stop (front_after past)
 unfolding front_after
 front_halts_end past head records stop p q f = stops_by stop f (λ fault s. record {
   breach = λ bytes has.
@@ -410,7 +414,7 @@ front_took past head records p q r = record {
       ap (front_after past) regrouped ∙ rw (p.reads (q.part ++ (r.part ++ rest)), q.reads (r.part ++ rest), front_is (p.part ++ (q.part ++ (r.part ++ rest))) (p.part ++ q.part) (r.part ++ rest) all, r.reads rest) refl;
 }
 
-pub took_front : (past : Option SessionValue) {a b : List ℕ → Type 0} {g h : HashingSink} {s : SessionValue} → Took a b g h (front_after past) s → TookFront a b (front_after past) s
+pub took_front : (past : Option SessionValue) {a b : List ℕ → Type 0} {g h : HashingSink} {s : SessionValue} → Took a b g h (front_after past) s → FedFront a b (front_after past) s
 took_front past t = record { part = t.part; fits = t.moved.fits; given = t.moved.given; reads = t.reads }
 
 -- what was taken is the file of a session over the previous one
@@ -428,7 +432,7 @@ front_is_file past part s before fits reads =
     let spelled : part ≡ file_of s = t.2 ∙ append-nil (file_of s) in
     record { session = t.0; taken = t.1; spelled = spelled; digest = ap sha256 spelled }
 
-pub edges_feed : {X : Type 0} {a b : List ℕ → Type 0} (c : List ℕ → Type 0) {g h : HashingSink} (k : HashingSink) (view : X → List ℕ) (front : List RecordValue) (key : Key) (n : ℕ) (result : Result X Stop) → Took a b g h eight n → Feeds b c h k view result (edges_from front key [] n) → Feeds a c g k view result (edges_at front key)
+pub edges_feed : {X : Type 0} {a b : List ℕ → Type 0} (c : List ℕ → Type 0) {g h : HashingSink} (k : HashingSink) (view : X → List ℕ) (front : List RecordValue) (key : Key) (n : ℕ) (result : Result X FeedFault) → Took a b g h eight n → Feeds b c h k view result (edges_from front key [] n) → Feeds a c g k view result (edge_list_at front key)
 edges_feed c k view front key n (Ok x) p f = edges_took front key n (view x) p f
 edges_feed c k view front key n (Err stop) p f = edges_halt front key n stop p f
 
@@ -442,24 +446,24 @@ counts_other fault old new h = subst (λ (b : Bool). CountsIf b old new) (sym h.
 
 module _ (past : Option SessionValue) (before : IfSome past IsSession) where
   module _ {a b : List ℕ → Type 0} {t : SessionValue} where
-    pub front_file : (f : TookFront a b (front_after past) t) → IsFile past f.part t
+    pub front_file : (f : FedFront a b (front_after past) t) → IsFile past f.part t
     front_file f = front_is_file past f.part t before f.fits f.reads
 
-    pub front_given : TookFront a b (front_after past) t → Given a b (file_of t)
+    pub front_given : FedFront a b (front_after past) t → Given a b (file_of t)
     front_given f = subst (Given a b) (front_file f).spelled f.given
 
     -- what the bytes are that were held
-    pub front_left : TookFront a b (front_after past) t → (bytes : List ℕ) → a bytes → At b (front_after past) t bytes
+    pub front_left : FedFront a b (front_after past) t → (bytes : List ℕ) → a bytes → At b (front_after past) t bytes
     front_left f bytes has =
         let l = f.given.left bytes has in
         record { rest = l.rest; is = ap (front_after past) l.whole ∙ f.reads l.rest; holds = l.holds }
 
-    pub front_only : TookFront a b (front_after past) t → (s : SessionValue) (rest : List ℕ) → IsSession s → IsTakenFrom past s → a (file_of s ++ rest) → done t ≡ Ok s
+    pub front_only : FedFront a b (front_after past) t → (s : SessionValue) (rest : List ℕ) → IsSession s → IsTakenFrom past s → a (file_of s ++ rest) → done t ≡ Ok s
     front_only f s rest h taken has =
         let x = front_left f (file_of s ++ rest) has in
         ap (λ (y : SessionValue × List ℕ). done y.0) (ok_is (t, x.rest) (s, rest) (sym x.is ∙ front_again past s rest h taken))
 
-  pub front_not : {a : List ℕ → Type 0} {fault : FileFault} → Breaks a (front_after past) fault → (s : SessionValue) (rest : List ℕ) → IsSession s → IsTakenFrom past s → a (file_of s ++ rest) → ⊥
+  pub front_not : {a : List ℕ → Type 0} {fault : FileFault} → HasBreach a (front_after past) fault → (s : SessionValue) (rest : List ℕ) → IsSession s → IsTakenFrom past s → a (file_of s ++ rest) → ⊥
   front_not {a} {fault} f s rest h taken has =
       never fault (s, rest) (sym (f.breach (file_of s ++ rest) has) ∙ front_again past s rest h taken)
 

@@ -7,22 +7,22 @@ use Rattle.session_file.specs.Reading.{Parser}
 use Rattle.session_file.specs.declared.fault.FileFault.{FileFault}
 use Rattle.session_file.specs.declared.fault.FileFault.TheVariants.{Device, Truncated}
 use Rattle.devices.specs.declared.hashing.HashingSink.{HashingSink}
-use Rattle.session_file.specs.declared.stop.Stop.{Stop}
-use Rattle.session_file.specs.declared.stop.Stop.TheVariants as stops
+use Rattle.session_file.specs.declared.reading.feed_fault.FeedFault.{FeedFault}
+use Rattle.session_file.specs.declared.reading.feed_fault.FeedFault.TheVariants as faults
 
 abbrev pub is_device : FileFault → Bool
 is_device Device = true
 is_device _ = false
 
 -- just a failure of the device is counted, and no breach of the bytes is one
-abbrev pub CountsAt : Stop → ℕ → ℕ → Type 0
-CountsAt stops.Memory old new = new ≡ old
-CountsAt stops.Device old new = new ≡ one_more old
-CountsAt (stops.Breach fault) old new = (is_device fault ≡ false) × (new ≡ old)
+abbrev pub CountsAt : FeedFault → ℕ → ℕ → Type 0
+CountsAt faults.Memory old new = new ≡ old
+CountsAt faults.Device old new = new ≡ one_more old
+CountsAt (faults.Breach fault) old new = (is_device fault ≡ false) × (new ≡ old)
 
-abbrev pub CountsStop : {A : Type 0} → Result A Stop → ℕ → ℕ → Type 0
-CountsStop (Ok a) old new = new ≡ old
-CountsStop (Err stop) old new = CountsAt stop old new
+abbrev pub CountsFeedFault : {A : Type 0} → Result A FeedFault → ℕ → ℕ → Type 0
+CountsFeedFault (Ok a) old new = new ≡ old
+CountsFeedFault (Err stop) old new = CountsAt stop old new
 
 -- just a failure of the device is counted
 abbrev pub CountsIf : Bool → ℕ → ℕ → Type 0
@@ -44,15 +44,15 @@ pub record Given (old new : List ℕ → Type 0) (part : List ℕ) : Type 0 wher
   pub left : (bytes : List ℕ) → old bytes → Left new part bytes
 
 -- what was held, where that is told, is shorter than this many bytes
-pub record IsShort (old : List ℕ → Type 0) (count : ℕ) : Type 0 where
+pub record IsShorter (old : List ℕ → Type 0) (count : ℕ) : Type 0 where
   pub short : (bytes : List ℕ) → old bytes → length bytes < count
 
 -- the room was filled with what was held, or that is too short
-abbrev pub FillsNot : (List ℕ → Type 0) → ℕ → Stop → Type 0
-FillsNot old count (stops.Breach fault) = (fault ≡ Truncated) × IsShort old count
+abbrev pub FillsNot : (List ℕ → Type 0) → ℕ → FeedFault → Type 0
+FillsNot old count (faults.Breach fault) = (fault ≡ Truncated) × IsShorter old count
 FillsNot old count _ = Unit {0}
 
-abbrev pub Fills : {A : Type 0} → (List ℕ → Type 0) → (List ℕ → Type 0) → List ℕ → List ℕ → Result A Stop
+abbrev pub Fills : {A : Type 0} → (List ℕ → Type 0) → (List ℕ → Type 0) → List ℕ → List ℕ → Result A FeedFault
     → Type 0
 Fills old new before after (Ok a) = (length after ≡ length before) × Given old new after
 Fills old new before after (Err stop) = FillsNot old (length before) stop
@@ -65,7 +65,7 @@ pub record Moved (old new : List ℕ → Type 0) (hash_old hash_new : HashingSin
       → Holds256 hash_new.hasher (front ++ part)
 
 abbrev pub Pulls : {A : Type 0} → (List ℕ → Type 0) → (List ℕ → Type 0) → HashingSink → HashingSink
-    → List ℕ → List ℕ → Result A Stop → Type 0
+    → List ℕ → List ℕ → Result A FeedFault → Type 0
 Pulls old new hash_old hash_new before after (Ok a) =
     (length after ≡ length before) × Moved old new hash_old hash_new after
 Pulls old new hash_old hash_new before after (Err stop) = FillsNot old (length before) stop
@@ -78,20 +78,20 @@ pub record Took {A : Type 0} (old new : List ℕ → Type 0) (hash_old hash_new 
   pub reads : (rest : List ℕ) → step (part ++ rest) ≡ Ok (a, rest)
 
 -- what was held, where that is told, has the fault
-pub record Breaks {A : Type 0} (old : List ℕ → Type 0) (step : List ℕ → Result A FileFault)
+pub record HasBreach {A : Type 0} (old : List ℕ → Type 0) (step : List ℕ → Result A FileFault)
     (fault : FileFault) : Type 0 where
   pub breach : (bytes : List ℕ) → old bytes → step bytes ≡ Err fault
 
-abbrev pub Halts : {A : Type 0} → (List ℕ → Type 0) → Stop → (List ℕ → Result A FileFault) → Type 0
-Halts old (stops.Breach fault) step = Breaks old step fault
-Halts old _ step = Unit {0}
+abbrev pub StopsAs : {A : Type 0} → (List ℕ → Type 0) → FeedFault → (List ℕ → Result A FileFault) → Type 0
+StopsAs old (faults.Breach fault) step = HasBreach old step fault
+StopsAs old _ step = Unit {0}
 
 -- What a function returned, seen by view, is what reading from the feed gives, unless memory ran
 -- out or the device failed.
 abbrev pub Feeds : {X Y : Type 0} → (List ℕ → Type 0) → (List ℕ → Type 0) → HashingSink → HashingSink
-    → (X → Y) → Result X Stop → Parser Y → Type 0
+    → (X → Y) → Result X FeedFault → Parser Y → Type 0
 Feeds old new hash_old hash_new view (Ok x) step = Took old new hash_old hash_new step (view x)
-Feeds old new hash_old hash_new view (Err stop) step = Halts old stop step
+Feeds old new hash_old hash_new view (Err stop) step = StopsAs old stop step
 
 -- so many bytes were taken, and appended to the text
 pub record Appended (old new : List ℕ → Type 0) (hash_old hash_new : HashingSink)
@@ -102,7 +102,7 @@ pub record Appended (old new : List ℕ → Type 0) (hash_old hash_new : Hashing
   pub appended : after ≡ before ++ part
 
 abbrev pub Appends : {A : Type 0} → (List ℕ → Type 0) → (List ℕ → Type 0) → HashingSink → HashingSink
-    → List ℕ → List ℕ → ℕ → Result A Stop → Type 0
+    → List ℕ → List ℕ → ℕ → Result A FeedFault → Type 0
 Appends old new hash_old hash_new before after count (Ok a) =
     Appended old new hash_old hash_new before after count
 Appends old new hash_old hash_new before after count (Err stop) = FillsNot old count stop
@@ -115,13 +115,13 @@ pub record Leads {A : Type 0} (old new : List ℕ → Type 0) (hash_old hash_new
   pub leads : (rest : List ℕ) → p (part ++ rest) ≡ q rest
 
 -- what a function returned that began to hash, and what it took
-pub record TookFront {A : Type 0} (old new : List ℕ → Type 0) (step : Parser A) (a : A) : Type 0 where
+pub record FedFront {A : Type 0} (old new : List ℕ → Type 0) (step : Parser A) (a : A) : Type 0 where
   pub part : List ℕ
   pub fits : IsBytes part
   pub given : Given old new part
   pub reads : (rest : List ℕ) → step (part ++ rest) ≡ Ok (a, rest)
 
-abbrev pub FeedsFront : {X Y : Type 0} → (List ℕ → Type 0) → (List ℕ → Type 0) → (X → Y) → Result X Stop
+abbrev pub FeedsFront : {X Y : Type 0} → (List ℕ → Type 0) → (List ℕ → Type 0) → (X → Y) → Result X FeedFault
     → Parser Y → Type 0
-FeedsFront old new view (Ok x) step = TookFront old new step (view x)
-FeedsFront old new view (Err stop) step = Halts old stop step
+FeedsFront old new view (Ok x) step = FedFront old new step (view x)
+FeedsFront old new view (Err stop) step = StopsAs old stop step

@@ -1,14 +1,14 @@
 -- Keys and marks by what stands for them in a file.
-use Rattle.std.specs.Prelude.{ℕ, Bool, true, false, List, [], ◌∷◌, Option, Some, None, is_some, find, ◌==◌, ◌&&◌, if◌then◌else◌}
+use Rattle.std.specs.Prelude.{ℕ, Bool, List, [], ◌∷◌, Option, Some, None, is_some, find, ◌==◌, ◌&&◌, if◌then◌else◌}
+use Rattle.std.specs.Bool.{beq}
 use Rattle.std.specs.Str.{is_utf8}
 use Rattle.item_ids.specs.declared.kind.Kind.{Kind}
-use Rattle.item_ids.specs.declared.kind.Kind.TheVariants as kinds
 use Rattle.item_ids.specs.Kinds.{kind_with, has_class, has_member}
 use Rattle.item_ids.specs.declared.key.Key.{Key}
-use Rattle.item_ids.specs.declared.key.Key.TheVariants.{Files, Source, Tree, Index, Header, Method, Sig, Supers, Members, CheckClass, CheckBody, Diags, Answer}
 use Rattle.sessions.specs.declared.mark.Mark.{Mark}
 use Rattle.sessions.specs.declared.mark.Mark.TheVariants.{Input, Executed, Green}
 use Rattle.sessions.specs.Marks.{mark_number}
+use Rattle.item_ids.specs.KeyShapes.{key_of_parts}
 
 -- the mark of this number
 unfoldable pub mark_with : ℕ → Option Mark
@@ -19,31 +19,10 @@ abbrev pub name_with : List ℕ → Option (List ℕ)
 name_with [] = None
 name_with (b ∷ bytes) = Some (b ∷ bytes)
 
-abbrev pub same : Bool → Bool → Bool
-same true b = b
-same false true = false
-same false false = true
-
 -- a name is there exactly where the kind has one
 abbrev pub are_names : Kind → Option (List ℕ) → Option (List ℕ) → Bool
 are_names kind class member =
-    same (is_some class) (has_class kind) && same (is_some member) (has_member kind)
-
--- the key of a kind, with those of the names that the kind has
-abbrev pub key_of_parts : Kind → List ℕ → List ℕ → Key
-key_of_parts kinds.Files class member = Files
-key_of_parts kinds.Source class member = Source class
-key_of_parts kinds.Tree class member = Tree class
-key_of_parts kinds.Index class member = Index
-key_of_parts kinds.Header class member = Header class
-key_of_parts kinds.Method class member = Method class member
-key_of_parts kinds.Sig class member = Sig class member
-key_of_parts kinds.Supers class member = Supers class
-key_of_parts kinds.Members class member = Members class
-key_of_parts kinds.CheckClass class member = CheckClass class
-key_of_parts kinds.CheckBody class member = CheckBody class member
-key_of_parts kinds.Diags class member = Diags class
-key_of_parts kinds.Answer class member = Answer
+    beq (is_some class) (has_class kind) && beq (is_some member) (has_member kind)
 
 abbrev pub key_of_kind : Kind → List ℕ → List ℕ → Option Key
 key_of_kind kind class member =

@@ -1,10 +1,12 @@
 -- Reading a session's file from left to right, with the first breach that is met.
 use Rattle.std.specs.Prelude.{◌≡◌, ℕ, zero, suc, ◌-◌, Bool, true, false, not, ◌&&◌, ◌||◌, List, [], ◌∷◌, ◌++◌, length, take, drop, slice_get, Option, Some, None, option_map, Result, Ok, Err, nat_lt, nat_le, bytes_eq, ◌==◌, if◌then◌else◌}
+use Rattle.std.specs.Bool.{beq}
 use Rattle.std.specs.Ordering.{is_lt}
 use Rattle.sha2.specs.Sha256.{sha256}
 use Rattle.item_ids.specs.declared.kind.Kind.{Kind}
 use Rattle.item_ids.specs.declared.key.Key.{Key}
 use Rattle.item_ids.specs.Keys.{kind_of, key_cmp}
+use Rattle.item_ids.specs.Inputs.{is_input, rank}
 use Rattle.byte_readers.specs.declared.breach.Breach.{Breach}
 use Rattle.byte_readers.specs.Reading.{byte_at, two_at, four_at, eight_at}
 use Rattle.result_bytes.specs.declared.refusal.Refusal.{Refusal}
@@ -14,12 +16,12 @@ use Rattle.fingerprint.specs.Prints.{print_of}
 use Rattle.sessions.specs.declared.mark.Mark.{Mark}
 use Rattle.sessions.specs.declared.terms.Form.{Form}
 use Rattle.sessions.specs.declared.terms.Terms.{Terms}
-use Rattle.sessions.specs.Marks.{is_input, is_input_mark}
+use Rattle.sessions.specs.Marks.{is_input_mark}
 use Rattle.sessions.specs.Terms.{terms_with, ends_with_print}
-use Rattle.sessions.specs.Sessions.{most_number, RecordValue, SessionValue, Entry, rank, key_at, past_entry}
+use Rattle.sessions.specs.Sessions.{most_number, RecordValue, SessionValue, Entry, key_at, past_entry}
 use Rattle.session_file.specs.declared.fault.FileFault.{FileFault}
 use Rattle.session_file.specs.declared.fault.FileFault.TheVariants.{BadMagic, Version, Truncated, BadDigest, KeyOrder, BadEdge, Result as BadResult, InputKind, Trailing, Device, BadKey, Number, NoPastResult, OutOfMemory}
-use Rattle.session_file.specs.Keys.{same, key_with, mark_with}
+use Rattle.session_file.specs.Keys.{key_with, mark_with}
 
 infixl 10 ◌>>=◌
 abbrev pub ◌>>=◌ : {A B : Type 0} → Result A FileFault → (A → Result B FileFault)
@@ -45,20 +47,20 @@ IsUnlessMemory result answer = result ≡ answer
 -- ---- parts that have a length
 
 -- an item that the bytes end within
-abbrev pub whole : {A : Type 0} → Result A Breach → Result A FileFault
-whole (Ok x) = Ok x
-whole (Err breach) = Err Truncated
+abbrev pub or_truncated : {A : Type 0} → Result A Breach → Result A FileFault
+or_truncated (Ok x) = Ok x
+or_truncated (Err breach) = Err Truncated
 
 -- so many bytes
-unfoldable pub bytes_at : ℕ → Parser (List ℕ)
-bytes_at n bytes =
+unfoldable pub slice_at : ℕ → Parser (List ℕ)
+slice_at n bytes =
     if nat_lt (length bytes) n then Err Truncated else Ok (take n bytes, drop n bytes)
 
 -- one byte of length, and so many bytes
-unfoldable pub text_at : Parser (List ℕ)
-text_at bytes = do
-  n ← whole (byte_at bytes)
-  bytes_at n.0 n.1
+unfoldable pub short_text_at : Parser (List ℕ)
+short_text_at bytes = do
+  n ← or_truncated (byte_at bytes)
+  slice_at n.0 n.1
 
 -- what is there, else a fault
 abbrev pub there : {A : Type 0} → FileFault → Option A → List ℕ → Result (A × List ℕ) FileFault
@@ -66,9 +68,9 @@ there fault None rest = Err fault
 there fault (Some a) rest = Ok (a, rest)
 
 -- a test, else a fault
-abbrev pub demand : Bool → FileFault → Result (Unit {0}) FileFault
-demand true fault = Ok tt
-demand false fault = Err fault
+abbrev pub tested : Bool → FileFault → Result (Unit {0}) FileFault
+tested true fault = Ok tt
+tested false fault = Err fault
 
 -- ---- a record behind those in front of it
 
@@ -83,10 +85,10 @@ item_with _ _ = None
 -- a key and its mark
 unfoldable pub item_at : ℕ → Parser ItemValue
 item_at i bytes = do
-  kind ← whole (byte_at bytes)
-  class ← text_at kind.1
-  member ← text_at class.1
-  mark ← whole (byte_at member.1)
+  kind ← or_truncated (byte_at bytes)
+  class ← short_text_at kind.1
+  member ← short_text_at class.1
+  mark ← or_truncated (byte_at member.1)
   there (BadKey i) (item_with (key_with kind.0 class.0 member.0) (mark_with mark.0)) mark.1
 
 abbrev pub is_behind : Option RecordValue → Key → Bool
@@ -96,8 +98,15 @@ is_behind (Some last) key = is_lt (key_cmp last.key key)
 -- the key is greater than the one before, and its mark is Input exactly where it is an input
 unfoldable pub check_place : List RecordValue → ItemValue → Result (Unit {0}) FileFault
 check_place front item = do
-  order ← demand (is_behind (slice_get front (length front - 1)) item.key) (KeyOrder (length front))
-  demand (same (is_input_mark item.mark) (is_input (kind_of item.key))) (InputKind (length front))
+  order ← tested (is_behind (slice_get front (length front - 1)) item.key) (KeyOrder (length front))
+  tested (beq (is_input_mark item.mark) (is_input (kind_of item.key))) (InputKind (length front))
+
+-- a key and its mark, where these may follow the records in front
+unfoldable pub placed_item_at : List RecordValue → Parser ItemValue
+placed_item_at front bytes = do
+  item ← item_at (length front) bytes
+  place ← check_place front item.0
+  Ok item
 
 abbrev pub is_among : List ℕ → ℕ → Bool
 is_among [] e = false
@@ -112,14 +121,14 @@ is_next_edge front key edges e =
 unfoldable pub edges_from : List RecordValue → Key → List ℕ → ℕ → Parser (List ℕ)
 edges_from front key edges zero bytes = Ok (edges, bytes)
 edges_from front key edges (suc n) bytes = do
-  e ← whole (eight_at bytes)
+  e ← or_truncated (eight_at bytes)
   if is_next_edge front key edges e.0
       then edges_from front key (edges ++ e.0 ∷ []) n e.1
       else Err (BadEdge (length front) (length edges))
 
-unfoldable pub edges_at : List RecordValue → Key → Parser (List ℕ)
-edges_at front key bytes = do
-  n ← whole (eight_at bytes)
+unfoldable pub edge_list_at : List RecordValue → Key → Parser (List ℕ)
+edge_list_at front key bytes = do
+  n ← or_truncated (eight_at bytes)
   edges_from front key [] n.0 n.1
 
 -- the value, where it has this fingerprint
@@ -133,9 +142,9 @@ value_with_print print (Err refusal) = None
 -- a value of a kind that has the fingerprint in front of it
 unfoldable pub result_at : ℕ → Kind → Parser Value
 result_at i kind bytes = do
-  print ← bytes_at 32 bytes
-  n ← whole (eight_at print.1)
-  text ← bytes_at n.0 n.1
+  print ← slice_at 32 bytes
+  n ← or_truncated (eight_at print.1)
+  text ← slice_at n.0 n.1
   there (BadResult i) (value_with_print print.0 (decoding kind text.0)) text.1
 
 -- What records are read over: the previous session, where there is one, and the form of the file.
@@ -154,7 +163,7 @@ past_with_print print None = None
 -- a fingerprint, which is that of the previous session's result
 unfoldable pub taken_at : ℕ → Option Value → Parser Value
 taken_at i had bytes = do
-  print ← bytes_at 32 bytes
+  print ← slice_at 32 bytes
   there (NoPastResult i) (past_with_print print.0 had) print.1
 
 -- what a record ends with
@@ -170,20 +179,14 @@ pub record RestValue : Type 0 where
 -- what follows a key and its mark
 unfoldable pub rest_at : OriginValue → List RecordValue → ItemValue → Parser RestValue
 rest_at origin front item bytes = do
-  edges ← edges_at front item.key bytes
+  edges ← edge_list_at front item.key bytes
   value ← told_at origin (length front) item edges.1
   Ok (record { edges = edges.0; value = value.0 }, value.1)
 
--- what follows a key and its mark, where these may follow the records in front
-unfoldable pub behind_item : OriginValue → List RecordValue → ItemValue → Parser RestValue
-behind_item origin front item bytes = do
-  place ← check_place front item
-  rest_at origin front item bytes
-
 unfoldable pub record_at : OriginValue → List RecordValue → Parser RecordValue
 record_at origin front bytes = do
-  item ← item_at (length front) bytes
-  rest ← behind_item origin front item.0 item.1
+  item ← placed_item_at front bytes
+  rest ← rest_at origin front item.0 item.1
   Ok (
     record { key = item.0.key; mark = item.0.mark; edges = rest.0.edges; value = rest.0.value },
     rest.1,
@@ -223,12 +226,12 @@ start_at bytes = do
 unfoldable pub head_at : Parser HeadValue
 head_at bytes = do
   rest ← magic_at bytes
-  version ← whole (two_at rest)
+  version ← or_truncated (two_at rest)
   terms ← there Version (terms_with version.0) version.1
-  number ← whole (four_at terms.1)
-  small ← demand (nat_le number.0 most_number) Number
-  link ← bytes_at 32 number.1
-  count ← whole (eight_at link.1)
+  number ← or_truncated (four_at terms.1)
+  small ← tested (nat_le number.0 most_number) Number
+  link ← slice_at 32 number.1
+  count ← or_truncated (eight_at link.1)
   Ok (
     record { terms = terms.0; number = number.0; link = link.0; count = count.0 },
     count.1,
@@ -237,8 +240,8 @@ head_at bytes = do
 -- the digest of all before it
 unfoldable pub end_at : List ℕ → Parser (Unit {0})
 end_at body bytes = do
-  digest ← bytes_at 32 bytes
-  right ← demand (bytes_eq digest.0 (sha256 body)) BadDigest
+  digest ← slice_at 32 bytes
+  right ← tested (bytes_eq digest.0 (sha256 body)) BadDigest
   Ok (tt, digest.1)
 
 -- the session that a head and records make
@@ -268,7 +271,7 @@ session_after past bytes = do
 unfoldable pub file_after : Option SessionValue → List ℕ → Result SessionValue FileFault
 file_after past bytes = do
   s ← front_after past bytes
-  none ← demand (length s.1 == 0) Trailing
+  none ← tested (length s.1 == 0) Trailing
   Ok s.0
 
 -- the same where there is no previous session

@@ -2,9 +2,9 @@
 use Rattle.std.specs.Prelude.{◌≡◌, ℕ, List, [], ◌∷◌, ◌++◌, Result, Ok, Err}
 use Rattle.sessions.specs.Sessions.{RecordValue}
 use Rattle.session_file.specs.Reading.{OriginValue, record_at}
-use Rattle.session_file.specs.Feeding.{Took, Halts}
+use Rattle.session_file.specs.Feeding.{Took, StopsAs}
 use Rattle.devices.specs.declared.hashing.HashingSink.{HashingSink}
-use Rattle.session_file.specs.declared.stop.Stop.{Stop}
+use Rattle.session_file.specs.declared.reading.feed_fault.FeedFault.{FeedFault}
 
 -- the next record was read behind those before it, and put there
 pub record TookRecord (old new : List ℕ → Type 0) (hash_old hash_new : HashingSink)
@@ -14,8 +14,8 @@ pub record TookRecord (old new : List ℕ → Type 0) (hash_old hash_new : Hashi
   pub appended : after ≡ before ++ next ∷ []
 
 abbrev pub AppendsRecord : {A : Type 0} → (List ℕ → Type 0) → (List ℕ → Type 0) → HashingSink → HashingSink
-    → OriginValue → List RecordValue → List RecordValue → Result A Stop → Type 0
+    → OriginValue → List RecordValue → List RecordValue → Result A FeedFault → Type 0
 AppendsRecord old new hash_old hash_new origin before after (Ok a) =
     TookRecord old new hash_old hash_new origin before after
 AppendsRecord old new hash_old hash_new origin before after (Err stop) =
-    Halts old stop (record_at origin before)
+    StopsAs old stop (record_at origin before)

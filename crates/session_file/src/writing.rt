@@ -7,7 +7,7 @@ ghost use Rattle.item_ids.specs.Kinds.{text_of};
 ghost use Rattle.mj_lexer.specs.Bytes.{most_name_bytes};
 ghost use Rattle.byte_readers.specs.Spelling.{eight};
 ghost use Rattle.sessions.specs.Spelling.{body_bytes, digest_of, file_of, head_bytes, record_bytes, result_bytes, start, told_bytes};
-ghost use Rattle.devices.specs.Devices.{Counts, Puts};
+ghost use Rattle.devices.specs.Devices.{CountsFailures, Puts};
 ghost use Rattle.session_file.specs.Parts.{front_bytes};
 
 use crate::fault::FileFault;
@@ -22,7 +22,7 @@ use std::thread::{Threads, join};
 pub fn write<W: Sink>(session: &Session, sink: &mut W) -> Result<(), FileFault>
     ensures holds { Puts (W.holds sink.old) (W.holds sink.new) (file_of session.now) result }
     ensures device { IfErr result (λ fault. fault ≡ FileFault.Device) }
-    ensures counted { Counts result (W.failed sink.old) (W.failed sink.new) }
+    ensures counted { CountsFailures result (W.failed sink.old) (W.failed sink.new) }
 {
     let end = hashed_body(session).digest();
     match put_file(sink, session, &end) {
@@ -40,7 +40,7 @@ pub fn write_by_two<W: Sink + Drop, T: Threads>(
 ) -> (W, Result<(), FileFault>)
     ensures holds { Puts (W.holds sink) (W.holds result.0) (file_of session.now) result.1 }
     ensures device { IfErr result.1 (λ fault. fault ≡ FileFault.Device) }
-    ensures counted { Counts result.1 (W.failed sink) (W.failed result.0) }
+    ensures counted { CountsFailures result.1 (W.failed sink) (W.failed result.0) }
 {
     let hashing = || -> [u8; 32]
         ensures { result ≡ sha256 (body_bytes session.entry.now) }
@@ -48,7 +48,7 @@ pub fn write_by_two<W: Sink + Drop, T: Threads>(
     let writing = move || -> (W, Result<(), DeviceFault>)
         ensures holds { Puts (W.holds sink) (W.holds result.0) (body_bytes session.entry.now)
             result.1 }
-        ensures counted { Counts result.1 (W.failed sink) (W.failed result.0) }
+        ensures counted { CountsFailures result.1 (W.failed sink) (W.failed result.0) }
     { with_body(sink, session) };
     let (end, body) = join(threads, hashing, writing);
     match body {
@@ -67,7 +67,7 @@ fn end_of(session: &Session) -> [u8; 32]
 /// The sink with all but the digest at the end appended.
 fn with_body<W: Sink>(sink: W, session: &Session) -> (W, Result<(), DeviceFault>)
     ensures holds { Puts (W.holds sink) (W.holds result.0) (body_bytes session.now) result.1 }
-    ensures counted { Counts result.1 (W.failed sink) (W.failed result.0) }
+    ensures counted { CountsFailures result.1 (W.failed sink) (W.failed result.0) }
 {
     let mut sink = sink;
     let put = put_body(&mut sink, session);
@@ -78,7 +78,7 @@ fn with_body<W: Sink>(sink: W, session: &Session) -> (W, Result<(), DeviceFault>
 fn with_end<W: Sink>(sink: W, end: &[u8; 32]) -> (W, Result<(), FileFault>)
     ensures holds { Puts (W.holds sink) (W.holds result.0) end.now result.1 }
     ensures device { IfErr result.1 (λ fault. fault ≡ FileFault.Device) }
-    ensures counted { Counts result.1 (W.failed sink) (W.failed result.0) }
+    ensures counted { CountsFailures result.1 (W.failed sink) (W.failed result.0) }
 {
     let mut sink = sink;
     match put_all(&mut sink, end.as_slice()) {
@@ -121,7 +121,7 @@ fn hashed_body(session: &Session) -> HashingSink
 fn put_file<W: Sink>(sink: &mut W, session: &Session, end: &[u8; 32]) -> Result<(), DeviceFault>
     ensures holds { Puts (W.holds sink.old) (W.holds sink.new)
         (body_bytes session.now ++ end.now) result }
-    ensures counted { Counts result (W.failed sink.old) (W.failed sink.new) }
+    ensures counted { CountsFailures result (W.failed sink.old) (W.failed sink.new) }
 {
     match put_body(sink, session) {
         Ok(()) => put_all(sink, end.as_slice()),
@@ -132,7 +132,7 @@ fn put_file<W: Sink>(sink: &mut W, session: &Session, end: &[u8; 32]) -> Result<
 /// Appends all but the digest at the end.
 fn put_body<W: Sink>(sink: &mut W, session: &Session) -> Result<(), DeviceFault>
     ensures holds { Puts (W.holds sink.old) (W.holds sink.new) (body_bytes session.now) result }
-    ensures counted { Counts result (W.failed sink.old) (W.failed sink.new) }
+    ensures counted { CountsFailures result (W.failed sink.old) (W.failed sink.new) }
 {
     match put_head(sink, session) {
         Ok(()) => put_records(sink, session.terms().form, session.records()),
@@ -143,7 +143,7 @@ fn put_body<W: Sink>(sink: &mut W, session: &Session) -> Result<(), DeviceFault>
 /// Appends what stands before the records.
 fn put_head<W: Sink>(sink: &mut W, session: &Session) -> Result<(), DeviceFault>
     ensures holds { Puts (W.holds sink.old) (W.holds sink.new) (head_bytes session.now) result }
-    ensures counted { Counts result (W.failed sink.old) (W.failed sink.new) }
+    ensures counted { CountsFailures result (W.failed sink.old) (W.failed sink.new) }
 {
     let start = start_of(session.terms());
     let number = four_bytes(session.number());
@@ -172,7 +172,7 @@ pub(crate) fn start_of(terms: Terms) -> [u8; 6]
 fn put_records<W: Sink>(sink: &mut W, form: Form, records: &[Record]) -> Result<(), DeviceFault>
     ensures holds { Puts (W.holds sink.old) (W.holds sink.new)
         (flat_map (record_bytes form) records.now) result }
-    ensures counted { Counts result (W.failed sink.old) (W.failed sink.new) }
+    ensures counted { CountsFailures result (W.failed sink.old) (W.failed sink.new) }
 {
     for item in records {
         match put_record(sink, form, item) {
@@ -186,7 +186,7 @@ fn put_records<W: Sink>(sink: &mut W, form: Form, records: &[Record]) -> Result<
 /// Appends a record.
 fn put_record<W: Sink>(sink: &mut W, form: Form, item: &Record) -> Result<(), DeviceFault>
     ensures holds { Puts (W.holds sink.old) (W.holds sink.new) (record_bytes form item.now) result }
-    ensures counted { Counts result (W.failed sink.old) (W.failed sink.new) }
+    ensures counted { CountsFailures result (W.failed sink.old) (W.failed sink.new) }
 {
     match put_front(sink, item) {
         Ok(()) => put_rest(sink, form, item),
@@ -197,7 +197,7 @@ fn put_record<W: Sink>(sink: &mut W, form: Form, item: &Record) -> Result<(), De
 /// Appends the key, the mark and the number of edges.
 fn put_front<W: Sink>(sink: &mut W, item: &Record) -> Result<(), DeviceFault>
     ensures holds { Puts (W.holds sink.old) (W.holds sink.new) (front_bytes item.now) result }
-    ensures counted { Counts result (W.failed sink.old) (W.failed sink.new) }
+    ensures counted { CountsFailures result (W.failed sink.old) (W.failed sink.new) }
 {
     let class = text(item.key().class());
     let member = text(item.key().member());
@@ -231,7 +231,7 @@ fn text(name: Option<&Name>) -> &[u8]
 fn put_rest<W: Sink>(sink: &mut W, form: Form, item: &Record) -> Result<(), DeviceFault>
     ensures holds { Puts (W.holds sink.old) (W.holds sink.new)
         (flat_map eight item.now.edges ++ told_bytes form item.now.mark item.now.value) result }
-    ensures counted { Counts result (W.failed sink.old) (W.failed sink.new) }
+    ensures counted { CountsFailures result (W.failed sink.old) (W.failed sink.new) }
 {
     match put_edges(sink, item.edges()) {
         Ok(()) => put_told(sink, form, item.mark(), item.sealed()),
@@ -249,7 +249,7 @@ fn put_told<W: Sink>(
 ) -> Result<(), DeviceFault>
     ensures holds { Puts (W.holds sink.old) (W.holds sink.new) (told_bytes form mark sealed.now)
         result }
-    ensures counted { Counts result (W.failed sink.old) (W.failed sink.new) }
+    ensures counted { CountsFailures result (W.failed sink.old) (W.failed sink.new) }
 {
     if form.ends_with_print(mark) {
         put_all(sink, sealed.print().0.as_slice())
@@ -261,7 +261,7 @@ fn put_told<W: Sink>(
 /// Appends the edges.
 fn put_edges<W: Sink>(sink: &mut W, edges: &[usize]) -> Result<(), DeviceFault>
     ensures holds { Puts (W.holds sink.old) (W.holds sink.new) (flat_map eight edges.now) result }
-    ensures counted { Counts result (W.failed sink.old) (W.failed sink.new) }
+    ensures counted { CountsFailures result (W.failed sink.old) (W.failed sink.new) }
 {
     for edge in edges {
         let bytes = eight_bytes(*edge as u64);
@@ -276,7 +276,7 @@ fn put_edges<W: Sink>(sink: &mut W, edges: &[usize]) -> Result<(), DeviceFault>
 /// Appends the fingerprint of a result, the number of its bytes, and its bytes.
 fn put_result<W: Sink>(sink: &mut W, sealed: &Sealed) -> Result<(), DeviceFault>
     ensures holds { Puts (W.holds sink.old) (W.holds sink.new) (result_bytes sealed.now) result }
-    ensures counted { Counts result (W.failed sink.old) (W.failed sink.new) }
+    ensures counted { CountsFailures result (W.failed sink.old) (W.failed sink.new) }
 {
     let print = sealed.print().0;
     let len = eight_bytes(sealed.bytes().len() as u64);

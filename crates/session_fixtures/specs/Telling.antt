@@ -1,7 +1,7 @@
 -- Sessions and their files, as short texts give them.
 use Rattle.std.specs.Prelude.{◌≡◌, ℕ, List, Some, replicate}
 use Rattle.std.specs.List.{AllZip}
-use Rattle.answer_fixtures.specs.Telling.{IsKeyOf, IsTold}
+use Rattle.answer_fixtures.specs.Telling.{IsKeyOf, IsSpelledValue}
 use Rattle.sessions.specs.declared.mark.Mark.{Mark}
 use Rattle.sessions.specs.declared.mark.Mark.TheVariants.{Input, Executed, Green}
 use Rattle.sessions.specs.declared.terms.Terms.{Terms}
@@ -15,7 +15,7 @@ pub record IsRecordOf (kept : Kept) (r : RecordValue) : Type 0 where
   pub key : IsKeyOf kept.key r.key
   pub mark : r.mark ≡ kept.mark
   pub edges : r.edges ≡ kept.edges.now
-  pub value : IsTold kept.key.0 kept.digits.now r.value
+  pub value : IsSpelledValue kept.key.0 kept.digits.now r.value
 
 -- the records are those that are given, in their order
 abbrev pub AreRecordsOf : List Kept → List RecordValue → Type 0
@@ -39,7 +39,7 @@ mark_again Executed = Green
 mark_again Green = Green
 
 -- the same record, which is green where it is no input
-pub record IsTakenOver (before after : Kept) : Type 0 where
+pub record IsTakenOverRecord (before after : Kept) : Type 0 where
   pub key : after.key ≡ before.key
   pub edges : after.edges ≡ before.edges
   pub digits : after.digits ≡ before.digits
@@ -51,7 +51,7 @@ pub record IsSecondOf (terms : Terms) (kept : List Kept) (s : SessionValue) : Ty
   pub first : SessionValue
   pub first_told : IsFirstOf kept first
   pub again : List Kept
-  pub taken_over : AllZip IsTakenOver kept again
+  pub taken_over : AllZip IsTakenOverRecord kept again
   pub told : IsToldSession 1 (digest_of first) again s
   pub terms_told : s.terms ≡ terms
 

@@ -1,6 +1,6 @@
 //! Devices that move a few bytes a call, and fail at one of their calls.
 ghost use Rattle.std.specs.Prelude.{◌≡◌, ◌<◌, [], IfOk};
-ghost use Rattle.devices.specs.Devices.{Counts, one_more};
+ghost use Rattle.devices.specs.Devices.{CountsFailures, one_more};
 
 use devices::{DeviceFault, Feed, Sink};
 use std::alloc::Global;
@@ -21,19 +21,19 @@ pub struct Manner {
 
 /// The calls of a device.
 #[derive(Drop)]
-struct Calls {
+struct DeviceCalls {
     manner: Manner,
     made: usize,
     failed: u64,
 }
 
-impl Calls {
+impl DeviceCalls {
     fn new(manner: Manner) -> Self
         ensures manner { result.manner ≡ manner }
         ensures made { result.made ≡ 0 }
         ensures failed { result.failed ≡ 0 }
     {
-        Calls {
+        DeviceCalls {
             manner,
             made: 0,
             failed: 0,
@@ -59,7 +59,7 @@ impl Calls {
     /// One call more: how many bytes it moves at most, or its failure.
     fn next(&mut self) -> Result<usize, DeviceFault>
         ensures some { IfOk result (λ most. 0 < most) }
-        ensures counted { Counts result self.old.failed self.new.failed }
+        ensures counted { CountsFailures result self.old.failed self.new.failed }
     {
         let call = self.made;
         self.made = self.made.saturating_add(1);
@@ -75,7 +75,7 @@ impl Calls {
 #[derive(Drop)]
 pub struct FailingSink {
     bytes: Vec<u8>,
-    calls: Calls,
+    calls: DeviceCalls,
 }
 
 impl FailingSink {
@@ -88,7 +88,7 @@ impl FailingSink {
     {
         FailingSink {
             bytes: Vec::new(alloc),
-            calls: Calls::new(manner),
+            calls: DeviceCalls::new(manner),
         }
     }
 
@@ -142,7 +142,7 @@ impl Sink for FailingSink {
 #[derive(Drop)]
 pub struct FailingFeed<'a> {
     rest: &'a [u8],
-    calls: Calls,
+    calls: DeviceCalls,
 }
 
 impl<'a> FailingFeed<'a> {
@@ -155,7 +155,7 @@ impl<'a> FailingFeed<'a> {
     {
         FailingFeed {
             rest: bytes,
-            calls: Calls::new(manner),
+            calls: DeviceCalls::new(manner),
         }
     }
 

@@ -2,7 +2,7 @@
 ghost use Rattle.std.specs.Prelude.{◌≡◌, ℕ, List, replicate, Ok, Err, IsTrue, IfOk, IfErr, IfSome, MatchOption};
 ghost use Rattle.sessions.specs.Sessions.{SessionValue, IsSession};
 ghost use Rattle.sessions.specs.Spelling.{file_of, digest_of};
-ghost use Rattle.devices.specs.Devices.{Counts, Puts};
+ghost use Rattle.devices.specs.Devices.{CountsFailures, Puts};
 ghost use Rattle.session_file.specs.Feeding.{CountsDevice, Given};
 ghost use Rattle.session_file.specs.Reading.{IsUnlessMemory, file_at};
 ghost use Rattle.session_file.specs.declared.fault.FileFault.{FileFault as SpecFault};
@@ -26,7 +26,7 @@ pub fn write_to<W: Sink>(
         × Puts (W.holds sink.old) (W.holds sink.new) (file_of s) ending) }
     ensures device { IfOk result (λ ending. IfErr ending (λ fault. fault ≡ Device)) }
     ensures counted { IfOk result (λ ending.
-        Counts ending (W.failed sink.old) (W.failed sink.new)) }
+        CountsFailures ending (W.failed sink.old) (W.failed sink.new)) }
     // Nothing is written where the records make no session.
     ensures unfit { IfErr result (λ _. sink.new ≡ sink.old) }
 {

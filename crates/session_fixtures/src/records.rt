@@ -4,7 +4,7 @@ ghost use Rattle.answer_fixtures.specs.Telling.{IsKeyOf};
 ghost use Rattle.session_fixtures.specs.declared.records.Kept.{Kept as SpecKept};
 ghost use Rattle.session_fixtures.specs.Telling.{IsRecordOf, AreRecordsOf, IsToldSession};
 
-use answer_fixtures::{Asked, Unfit, key_of, sealed_of};
+use answer_fixtures::{KeyParts, Unfit, key_of, sealed_of};
 use item_ids::Key;
 use sessions::{Mark, Record, Session, Terms};
 use std::alloc::{AllocError, AllocFailed, Global};
@@ -13,7 +13,7 @@ use std::alloc::{AllocError, AllocFailed, Global};
 /// bytes of its result in hexadecimal digits.
 #[derive(Clone, Copy)]
 pub struct Kept {
-    pub key: Asked<'static>,
+    pub key: KeyParts<'static>,
     pub mark: Mark,
     pub edges: &'static [usize],
     pub digits: &'static str,
@@ -103,7 +103,7 @@ fn record_with_edges(
     requires edges { edges.items ≡ kept.now.edges.now }
     ensures { IfOk result (IsRecordOf kept.now) }
 {
-    let Asked(kind, _, _) = kept.key;
+    let KeyParts(kind, _, _) = kept.key;
     let sealed = sealed_of(alloc, kind, kept.digits)?;
     Ok(Record::new(key, kept.mark, edges, sealed))
 }

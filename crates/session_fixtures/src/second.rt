@@ -6,7 +6,7 @@ ghost use Rattle.sessions.specs.Spelling.{file_of, digest_of};
 ghost use Rattle.session_file.specs.Feeding.{CountsDevice, Given};
 ghost use Rattle.session_file.specs.Reading.{IsUnlessMemory, file_after};
 ghost use Rattle.session_fixtures.specs.declared.records.Kept.{Kept as SpecKept};
-ghost use Rattle.session_fixtures.specs.Telling.{IsFirstOf, IsFileOver, IsTakenOver, IsSecondOf, mark_again};
+ghost use Rattle.session_fixtures.specs.Telling.{IsFirstOf, IsFileOver, IsTakenOverRecord, IsSecondOf, mark_again};
 
 use crate::files::file_of_session;
 use crate::records::{Kept, session_as, session_of};
@@ -57,7 +57,7 @@ fn mark_again(mark: Mark) -> Mark
 
 /// The records, of which those that were executed are green.
 pub fn greened(alloc: Global, kept: &[Kept]) -> Result<Vec<Kept>, AllocError>
-    ensures { IfOk result (λ again. AllZip IsTakenOver kept.now again.items) }
+    ensures { IfOk result (λ again. AllZip IsTakenOverRecord kept.now again.items) }
 {
     let mut again = Vec::new(alloc);
     for one in kept {
@@ -68,8 +68,8 @@ pub fn greened(alloc: Global, kept: &[Kept]) -> Result<Vec<Kept>, AllocError>
 
 /// Adds one more record, which is green if it was executed.
 fn add_again(again: &mut Vec<Kept>, kept: &Kept) -> Result<(), AllocError>
-    ensures { (before : List SpecKept) → AllZip IsTakenOver before again.old.items
-        → OnOk result (AllZip IsTakenOver (before ++ kept.now ∷ []) again.new.items) }
+    ensures { (before : List SpecKept) → AllZip IsTakenOverRecord before again.old.items
+        → OnOk result (AllZip IsTakenOverRecord (before ++ kept.now ∷ []) again.new.items) }
 {
     let last = taken_over(kept);
     Ok(push(again, last)?)
@@ -83,7 +83,7 @@ fn push(again: &mut Vec<Kept>, last: Kept) -> Result<(), AllocError>
 
 /// The same record, which is green if it was executed.
 fn taken_over(kept: &Kept) -> Kept
-    ensures { IsTakenOver kept.now result }
+    ensures { IsTakenOverRecord kept.now result }
 {
     let mark = mark_again(kept.mark);
     Kept { mark, ..*kept }

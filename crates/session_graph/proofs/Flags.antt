@@ -1,10 +1,9 @@
 -- Flags that are set.
-use Rattle.std.proofs.Common.{◌≡◌, ◌≢◌, ◌∙◌, ℕ, ◌<◌, inl, inr, ◌⊎◌, zero, suc, Bool, true, false, List, [], ◌∷◌, length, get_or, set, sym, ap, subst, arith, refl}
+use Rattle.std.proofs.Common.{◌≡◌, ◌∙◌, ℕ, ◌<◌, inl, inr, ◌⊎◌, zero, suc, Bool, true, false, List, [], ◌∷◌, length, get_or, set, sym, ap, subst, arith, refl}
 use Rattle.std.specs.Prelude.{Contains}
 use Rattle.std.specs.List.{AllByRecursion}
 use Rattle.std.proofs.lemmas.Bool.{cases_eq}
 use Rattle.std.proofs.lemmas.List.{get_or-set_same, get_or-set_other, length-set}
-use Rattle.std.proofs.lemmas.List.Elements.{All-contains}
 use Rattle.session_graph.specs.Flags.{with_flags}
 
 abbrev pub IsSet : List Bool → ℕ → Type 0

@@ -36,18 +36,18 @@ abbrev pub record_lines : Shade → ℕ → RecordValue → List ℕ
 record_lines shade i r = node_line shade i r ++ flat_map (edge_line i) r.edges
 
 -- those of the records that are drawn, of which the first has the index i
-abbrev pub lines_from : Option SessionValue → ℕ → List Bool → List RecordValue → List ℕ
-lines_from past i [] rs = []
-lines_from past i (drawn ∷ ds) [] = []
-lines_from past i (drawn ∷ ds) (r ∷ rs) =
-    (if drawn then record_lines (shade_of past r) i r else []) ++ lines_from past (i + 1) ds rs
+abbrev pub drawn_lines : Option SessionValue → ℕ → List Bool → List RecordValue → List ℕ
+drawn_lines past i [] rs = []
+drawn_lines past i (drawn ∷ ds) [] = []
+drawn_lines past i (drawn ∷ ds) (r ∷ rs) =
+    (if drawn then record_lines (shade_of past r) i r else []) ++ drawn_lines past (i + 1) ds rs
 
 abbrev pub head : List ℕ
 head = codes "digraph session {\n  node [shape=box, style=filled];\n"
 
 -- the text of the graph of a session over the one before, of all of it or of what lies within one record
-pub record IsGraph (past : Option SessionValue) (s : SessionValue) (of : Option ℕ) (text : List ℕ)
+pub record IsDotText (past : Option SessionValue) (s : SessionValue) (of : Option ℕ) (text : List ℕ)
     : Type 0 where
   pub drawn : List Bool
   pub exact : AreDrawn s.records of drawn
-  pub lines : text ≡ head ++ lines_from past 0 drawn s.records ++ codes "}\n"
+  pub lines : text ≡ head ++ drawn_lines past 0 drawn s.records ++ codes "}\n"

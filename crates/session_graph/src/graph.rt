@@ -1,7 +1,7 @@
 //! The text of the graph.
 ghost use Rattle.std.specs.Prelude.{◌≡◌, ◌++◌, ◌<◌, IfOk, IfSome, OnOk, flat_map, length, string_bytes};
 ghost use Rattle.std.specs.Option.{option_copied};
-ghost use Rattle.session_graph.specs.SessionGraph.{IsGraph, edge_line, lines_from, record_lines};
+ghost use Rattle.session_graph.specs.SessionGraph.{IsDotText, edge_line, drawn_lines, record_lines};
 
 use crate::label::write_label;
 use crate::shade::Shade;
@@ -21,7 +21,7 @@ pub fn dot_text(
 ) -> Result<String, AllocError>
     requires { IfSome of (λ root. root < length session.now.records) }
     ensures { IfOk result
-        (λ text. IsGraph (option_copied past.entry) session.now of (string_bytes text)) }
+        (λ text. IsDotText (option_copied past.entry) session.now of (string_bytes text)) }
 {
     let records = session.records();
     let drawn = drawn(alloc, records, of)?;
@@ -41,7 +41,7 @@ fn write_records(
 ) -> Result<(), AllocError>
     requires { length drawn.now ≡ length records.now }
     ensures { OnOk result (string_bytes text.new
-        ≡ string_bytes text.old ++ lines_from (option_copied past.entry) 0 drawn.now records.now) }
+        ≡ string_bytes text.old ++ drawn_lines (option_copied past.entry) 0 drawn.now records.now) }
 {
     let mut finder = Finder::new();
     for (i, item) in records.iter().enumerate() {

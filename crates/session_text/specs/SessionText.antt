@@ -2,29 +2,13 @@
 use Rattle.std.specs.Prelude.{ℕ, ◌+◌, List, [], ◌∷◌, ◌++◌, length, Option, Some, None, codes, decimal, flat_map}
 use Rattle.hex.specs.Hex.{encode_lower}
 use Rattle.item_ids.specs.declared.key.Key.{Key}
-use Rattle.item_ids.specs.declared.kind.Kind.{Kind}
-use Rattle.item_ids.specs.declared.kind.Kind.TheVariants as kinds
 use Rattle.item_ids.specs.Keys.{kind_of, class_of, member_of}
+use Rattle.item_ids.specs.Words.{kind_word}
 use Rattle.fingerprint.specs.Prints.{print_of}
 use Rattle.sessions.specs.declared.mark.Mark.{Mark}
 use Rattle.sessions.specs.declared.mark.Mark.TheVariants.{Input, Executed, Green}
 use Rattle.sessions.specs.Sessions.{RecordValue, SessionValue}
 use Rattle.sessions.specs.Terms.{version_of}
-
-abbrev pub kind_word : Kind → List ℕ
-kind_word kinds.Files = codes "Files"
-kind_word kinds.Source = codes "Source"
-kind_word kinds.Tree = codes "Tree"
-kind_word kinds.Index = codes "Index"
-kind_word kinds.Header = codes "Header"
-kind_word kinds.Method = codes "Method"
-kind_word kinds.Sig = codes "Sig"
-kind_word kinds.Supers = codes "Supers"
-kind_word kinds.Members = codes "Members"
-kind_word kinds.CheckClass = codes "CheckClass"
-kind_word kinds.CheckBody = codes "CheckBody"
-kind_word kinds.Diags = codes "Diags"
-kind_word kinds.Answer = codes "Answer"
 
 abbrev pub mark_word : Mark → List ℕ
 mark_word Input = codes "Input"
@@ -63,12 +47,12 @@ record_line i r =
     ++ edges_text r.edges ++ codes "] " ++ encode_lower (print_of r.value) ++ codes "\n"
 
 -- a line for each record, of which the first has the index i
-abbrev pub lines_from : ℕ → List RecordValue → List ℕ
-lines_from i [] = []
-lines_from i (r ∷ rs) = record_line i r ++ lines_from (i + 1) rs
+abbrev pub lines_of_records : ℕ → List RecordValue → List ℕ
+lines_of_records i [] = []
+lines_of_records i (r ∷ rs) = record_line i r ++ lines_of_records (i + 1) rs
 
 -- session 0 version 1 records 12, and then the records
-abbrev pub text_of : SessionValue → List ℕ
-text_of s =
+abbrev pub text_of_session : SessionValue → List ℕ
+text_of_session s =
     codes "session " ++ decimal s.number ++ codes " version " ++ decimal (version_of s.terms)
-    ++ codes " records " ++ decimal (length s.records) ++ codes "\n" ++ lines_from 0 s.records
+    ++ codes " records " ++ decimal (length s.records) ++ codes "\n" ++ lines_of_records 0 s.records

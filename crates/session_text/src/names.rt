@@ -4,8 +4,7 @@ ghost use Rattle.std.specs.Option.{option_copied};
 ghost use Rattle.std.specs.Str.{bytes_eq};
 ghost use Rattle.session_text.specs.SessionText.{and_name, key_words};
 
-use crate::words::kind_word;
-use item_ids::Key;
+use item_ids::{Key, kind_word};
 use mj_lexer::Name;
 use sessions::Session;
 use std::alloc::{AllocError, Global};

@@ -1,10 +1,10 @@
 //! The lines.
 ghost use Rattle.std.specs.Prelude.{◌≡◌, ◌++◌, IfOk, OnOk, string_bytes};
-ghost use Rattle.session_text.specs.SessionText.{edges_text, key_text, lines_from, record_line};
-ghost use Rattle.session_text.specs.SessionText.{text_of};
+ghost use Rattle.session_text.specs.SessionText.{edges_text, key_text, lines_of_records, record_line};
+ghost use Rattle.session_text.specs.SessionText.{text_of_session};
 
-use crate::words::{kind_word, mark_word, name_word};
-use item_ids::Key;
+use crate::words::{mark_word, name_word};
+use item_ids::{Key, kind_word};
 use sessions::{Record, Session};
 use std::alloc::{AllocError, Global};
 use std::fmt::Write;
@@ -12,7 +12,7 @@ use std::fmt::Write;
 /// A line with the session's number, the version of its file and the number of its records, and then a line for each
 /// record.
 pub fn session_text(alloc: Global, session: &Session) -> Result<String, AllocError>
-    ensures { IfOk result (λ text. string_bytes text ≡ text_of session.now) }
+    ensures { IfOk result (λ text. string_bytes text ≡ text_of_session session.now) }
 {
     let records = session.records();
     let (number, version, count) = (session.number(), session.terms().version(), records.len());
@@ -23,7 +23,7 @@ pub fn session_text(alloc: Global, session: &Session) -> Result<String, AllocErr
 
 fn write_records(alloc: Global, text: &mut String, records: &[Record]) -> Result<(), AllocError>
     ensures { OnOk result
-        (string_bytes text.new ≡ string_bytes text.old ++ lines_from 0 records.now) }
+        (string_bytes text.new ≡ string_bytes text.old ++ lines_of_records 0 records.now) }
 {
     for (i, item) in records.iter().enumerate() {
         write_record(alloc, text, i, item)?;

@@ -5,10 +5,11 @@ use Rattle.std.specs.List.{AllByRecursion}
 use Rattle.std.proofs.lemmas.List.{get_or-set_same, get_or-set_other, length-set, map-set, length_push, map_push, take_more}
 use Rattle.std.proofs.lemmas.Bool.{cases_eq, ne_eqb, eq-eqb}
 use Rattle.item_ids.specs.declared.key.Key.{Key}
+use Rattle.item_ids.proofs.Lists.{all_push, once_push}
 use Rattle.sessions.specs.Sessions.{RecordValue, IsEdge}
 use Rattle.sessions.specs.Edges.{seen_in, IsNewEdge, AreEdges, IsNoneOf, AreSeenEdges}
 use Rattle.sessions.specs.Refusals.{IsFirstBadEdge}
-use Rattle.sessions.proofs.Lists.{all_push, all_front, all_last, distinct_push, distinct_last}
+use Rattle.sessions.proofs.Lists.{all_front, all_last, distinct_last}
 
 -- ---- what was seen
 
@@ -41,7 +42,7 @@ tells_more seen edges e t lt = record {
 -- one more edge
 pub edges_more : (front : List RecordValue) (key : Key) (seen : List Bool) (edges : List ℕ) (e : ℕ) → AreSeenEdges seen edges → length seen ≡ length front → AreEdges front key edges → IsNewEdge seen front key e → AreEdges front key (edges ++ e ∷ [])
 edges_more front key seen edges e t len h new =
-    (all_push (IsEdge front key) edges e h.0 new.0, distinct_push edges e h.1 (t.unseen e (omega (arith, len, new.0.0)) new.1))
+    (all_push (IsEdge front key) edges e h.0 new.0, once_push (λ (m : ℕ). m) edges e h.1 (t.unseen e (omega (arith, len, new.0.0)) new.1))
 
 -- what the next edge has to be
 pub edge_is_new : (front : List RecordValue) (key : Key) (seen : List Bool) (edges : List ℕ) (e : ℕ) → AreSeenEdges seen edges → length seen ≡ length front → AreEdges front key (edges ++ e ∷ []) → IsNewEdge seen front key e

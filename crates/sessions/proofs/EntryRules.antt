@@ -12,9 +12,11 @@ use Rattle.std.proofs.lemmas.List.{get_or-map, length-take-le}
 use Rattle.item_ids.specs.declared.key.Key.{Key}
 use Rattle.item_ids.specs.declared.key.Key.TheVariants.{Files}
 use Rattle.item_ids.specs.Keys.{key_cmp, key_total, kind_of}
-use Rattle.item_ids.proofs.Apart.{key_exact, key_itself}
-use Rattle.result_bytes.specs.Values.{IsValue, canon, kind_of_value}
-use Rattle.sessions.specs.Sessions.{RecordValue, SessionValue, IsSession, FitsBehind, AreRecords, IsEdge, IsAbove, AreInside, AreBelow, AreOnce, AreDistinct, rank, key_at, entry_of, entry_at, Entry}
+use Rattle.item_ids.proofs.Apart.{key_exact, key_itself, test_same, test_itself}
+use Rattle.item_ids.specs.Inputs.{rank}
+use Rattle.item_ids.specs.KeyLists.{NoneTwice, AreLower}
+use Rattle.result_bytes.specs.Values.{IsValue, IsOfKind, canon, kind_of_value}
+use Rattle.sessions.specs.Sessions.{RecordValue, SessionValue, IsSession, FitsBehind, AreRecords, IsEdge, IsAbove, AreInside, key_at, entry_of, entry_at, Entry}
 
 -- ---- look-ups
 
@@ -75,14 +77,9 @@ pub entry_of_place : (s : SessionValue) → IsSession s → (i : ℕ) (r : Recor
 entry_of_place s session i r lt is =
     let fits = record_fits s session i r lt is in
     find_entry s.records r.key s.records
-    ∙ ap (option_map (entry_of s.records)) (first_found (λ x. is_eq (key_cmp x.key r.key)) s.records i r lt is (above_not (take i s.records) r.key fits.above) (ap is_eq (key_itself r.key r.key refl)))
+    ∙ ap (option_map (entry_of s.records)) (first_found (λ x. is_eq (key_cmp x.key r.key)) s.records i r lt is (above_not (take i s.records) r.key fits.above) (test_itself r.key r.key refl))
 
 -- ---- what a session keeps of a key that it has
-
-equal_from : (o : Ordering) → is_eq o ≡ true → o ≡ Equal
-equal_from Less h = absurd cc
-equal_from Equal h = refl
-equal_from Greater h = absurd cc
 
 -- what is found passes
 pub found_yes : {X : Type 0} (p : X → Bool) (xs : List X) (x : X) → find p xs ≡ Some x → p x ≡ true
@@ -121,7 +118,7 @@ key_in_front rs n e lt =
     ∙ (ap (λ (x : RecordValue). x.key) (get_take rs n e at.0 lt)
     ∙ sym (get_or-map (λ (x : RecordValue). x.key) rs e at.0 Files (take_below rs n e lt)))
 
-lower_all : (rs : List RecordValue) (n : ℕ) (q : Key) (es : List ℕ) → AllByRecursion (IsEdge (take n rs) q) es → AreBelow q (map (key_at rs) es)
+lower_all : (rs : List RecordValue) (n : ℕ) (q : Key) (es : List ℕ) → AllByRecursion (IsEdge (take n rs) q) es → AreLower q (map (key_at rs) es)
 lower_all rs n q [] h = tt
 lower_all rs n q (e ∷ es) h = (subst (λ (k : Key). rank k < rank q) (key_in_front rs n e h.0.0) h.0.1, lower_all rs n q es h.1)
 
@@ -142,7 +139,7 @@ module _ (s : SessionValue) (session : IsSession s) (q : Key) (r : Entry) (has :
   fits = record_fits s session place.0 found.0 place.1 place.2
 
   same_record_key : found.0.key ≡ q
-  same_record_key = key_exact found.0.key q (equal_from (key_cmp found.0.key q) (found_yes (λ x. is_eq (key_cmp x.key q)) s.records found.0 found.1))
+  same_record_key = test_same found.0.key q (found_yes (λ x. is_eq (key_cmp x.key q)) s.records found.0 found.1)
 
   -- the record that tells it
   pub has_record : (x : RecordValue) × (i : ℕ) × (i < length s.records) × (get_or s.records i x ≡ x) × (entry_of s.records x ≡ r)
@@ -157,11 +154,11 @@ module _ (s : SessionValue) (session : IsSession s) (q : Key) (r : Entry) (has :
   pub has_key : r.key ≡ q
   has_key = ap (λ (x : Entry). x.key) (sym found.2) ∙ same_record_key
 
-  pub has_kind : kind_of_value r.value ≡ kind_of q
+  pub has_kind : IsOfKind q r.value
   has_kind = ap (λ (x : Entry). kind_of_value x.value) (sym found.2) ∙ (fits.kind ∙ ap kind_of same_record_key)
 
-  pub has_lower : AreBelow q r.reads
-  has_lower = subst (λ (k : Key). AreBelow k r.reads) same_record_key (subst (λ (x : Entry). AreBelow found.0.key x.reads) found.2 (lower_all s.records place.0 found.0.key found.0.edges fits.edges))
+  pub has_lower : AreLower q r.reads
+  has_lower = subst (λ (k : Key). AreLower k r.reads) same_record_key (subst (λ (x : Entry). AreLower found.0.key x.reads) found.2 (lower_all s.records place.0 found.0.key found.0.edges fits.edges))
 
   pub has_edge : (e : Key) → Contains r.reads e → (x : Entry) × (entry_at s e ≡ Some x)
   has_edge e c =
@@ -177,7 +174,7 @@ pub none_found : (q : Key) (xs : List RecordValue) → All (λ x. x.key ≢ q) x
 none_found q [] others = refl
 none_found q (x ∷ xs) others =
     (elim (is_eq (key_cmp x.key q)) as (λ b. is_eq (key_cmp x.key q) ≡ b → cond b (Some x) (find (λ y. is_eq (key_cmp y.key q)) xs) ≡ None) [
-      | true ↦ λ same. absurd (others 0 x (omega arith) (key_exact x.key q (equal_from (key_cmp x.key q) same)))
+      | true ↦ λ same. absurd (others 0 x (omega arith) (test_same x.key q same))
       | false ↦ λ other. none_found q xs (λ k d lt. others (suc k) d (omega arith))
     ]) refl
 
@@ -251,7 +248,8 @@ key_there rs i d lt = get_or-map (λ (x : RecordValue). x.key) rs i d Files lt
 less_differs : (a b : Key) → key_cmp a b ≡ Less → a ≢ b
 less_differs a b less = differs a b (λ e. absurd (cc))
 
-keys_differ : (rs : List RecordValue) → AreRecords rs → (i j : ℕ) → i < length rs → j < length rs → i ≢ j → key_at rs i ≢ key_at rs j
+-- the keys of two records differ
+pub keys_differ : (rs : List RecordValue) → AreRecords rs → (i j : ℕ) → i < length rs → j < length rs → i ≢ j → key_at rs i ≢ key_at rs j
 keys_differ rs are i j li lj n =
     let d = (at_place rs i li).0 in
     let a = key_there rs i d li in
@@ -265,13 +263,13 @@ others_differ : (rs : List RecordValue) → AreRecords rs → (i : ℕ) → i < 
 others_differ rs are i li [] inside other = tt
 others_differ rs are i li (e ∷ es) inside other = (keys_differ rs are e i inside.0 li other.0, others_differ rs are i li es inside.1 other.1)
 
-once_keys : (rs : List RecordValue) → AreRecords rs → (es : List ℕ) → AreInside rs es → AreDistinct es → AreOnce (map (key_at rs) es)
+once_keys : (rs : List RecordValue) → AreRecords rs → (es : List ℕ) → AreInside rs es → NoneTwice (λ e. e) es → NoneTwice (λ k. k) (map (key_at rs) es)
 once_keys rs are [] inside distinct = tt
 once_keys rs are (e ∷ es) inside distinct = (others_differ rs are e inside.0 es inside.1 distinct.0, once_keys rs are es inside.1 distinct.1)
 
-pub has_once : (s : SessionValue) → IsSession s → (q : Key) (r : Entry) → entry_at s q ≡ Some r → AreOnce r.reads
+pub has_once : (s : SessionValue) → IsSession s → (q : Key) (r : Entry) → entry_at s q ≡ Some r → NoneTwice (λ k. k) r.reads
 has_once s session q r has =
     let x = found s session q r has in
     let at = place s session q r has in
     let fit = fits s session q r has in
-    subst (λ (e : Entry). AreOnce e.reads) x.2 (once_keys s.records session.records x.0.edges (found_inside s session q x.0 x.1) fit.once)
+    subst (λ (e : Entry). NoneTwice (λ k. k) e.reads) x.2 (once_keys s.records session.records x.0.edges (found_inside s session q x.0 x.1) fit.once)

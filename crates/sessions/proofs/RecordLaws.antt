@@ -9,11 +9,12 @@ use Rattle.std.proofs.lemmas.List.{take-take, get_or-take, length-take, nil_from
 use Rattle.std.proofs.lemmas.Bool.{cases_eq}
 use Rattle.item_ids.specs.declared.key.Key.{Key}
 use Rattle.item_ids.specs.Keys.{key_cmp, key_total}
+use Rattle.item_ids.proofs.Lists.{all_push, all_map}
 use Rattle.sessions.specs.declared.fault.SessionFault.{SessionFault}
 use Rattle.sessions.specs.declared.fault.SessionFault.TheVariants.{Number, KeyOrder, InputKind, BadEdge, Result, OutOfMemory}
 use Rattle.sessions.specs.Sessions.{RecordValue, IsAbove, FitsBehind, AreRecords}
-use Rattle.sessions.specs.Refusals.{RefusesRecords, IsRefused, IsUnlessMemory}
-use Rattle.sessions.proofs.Lists.{all_push, all_last, all_for}
+use Rattle.sessions.specs.Refusals.{RefusesRecords, IsRefused, HoldsUnlessMemory}
+use Rattle.sessions.proofs.Lists.{all_last}
 
 -- the first records, each of which fits
 pub first_records : (records : List RecordValue) (i : ℕ) → ((k : ℕ) (r : RecordValue) → k < i → FitsBehind (take k records) (get_or records k r)) → AreRecords (take i records)
@@ -41,7 +42,7 @@ above_last front n last key are n-is is less =
     let len : suc n ≡ length front = omega (arith, n-is, at.0) in
     let whole = split_last front n last len is in
     let fits : FitsBehind (take n front) last = subst (FitsBehind (take n front)) at.1 (are n last at.0) in
-    let lower : AllByRecursion (λ r. key_cmp r.key key ≡ Less) (take n front) = all_for (λ r. key_cmp r.key last.key ≡ Less) (λ r. key_cmp r.key key ≡ Less) (take n front) (λ r h. key_total.trans r.key last.key key h less) fits.above in
+    let lower : AllByRecursion (λ r. key_cmp r.key key ≡ Less) (take n front) = all_map (λ r. key_cmp r.key last.key ≡ Less) (λ r. key_cmp r.key key ≡ Less) (λ r h. key_total.trans r.key last.key key h less) (take n front) fits.above in
     subst (λ (xs : List RecordValue). AllByRecursion (λ r. key_cmp r.key key ≡ Less) xs) (sym whole) (all_push (λ r. key_cmp r.key key ≡ Less) (take n front) last lower less)
 
 pub last_below : (front : List RecordValue) (n : ℕ) (last : RecordValue) (key : Key) → n ≡ length front - 1 → Some last ≡ slice_get front n → IsAbove front key → key_cmp last.key key ≡ Less
@@ -73,7 +74,7 @@ some_record [] i lt = absurd (omega arith)
 some_record (r ∷ records) i lt = r
 
 -- the fault of the records is that of the session
-pub refused_of : (number : ℕ) (records : List RecordValue) (fault : SessionFault) → number ≤ 9999 → IsUnlessMemory fault (RefusesRecords records fault) → IsRefused number records fault
+pub refused_of : (number : ℕ) (records : List RecordValue) (fault : SessionFault) → number ≤ 9999 → HoldsUnlessMemory fault (RefusesRecords records fault) → IsRefused number records fault
 refused_of number records Number le h = absurd (h.refused (some_record records h.index h.inside))
 refused_of number records (KeyOrder i) le h = (le, h)
 refused_of number records (InputKind i) le h = (le, h)

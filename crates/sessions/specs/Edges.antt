@@ -2,7 +2,8 @@
 use Rattle.std.specs.Prelude.{◌≡◌, ◌≢◌, ℕ, ◌<◌, ◌==◌, Bool, true, false, List, map, length, slice_index_or}
 use Rattle.std.specs.List.{AllByRecursion}
 use Rattle.item_ids.specs.declared.key.Key.{Key}
-use Rattle.sessions.specs.Sessions.{RecordValue, IsEdge, AreDistinct}
+use Rattle.item_ids.specs.KeyLists.{NoneTwice}
+use Rattle.sessions.specs.Sessions.{RecordValue, IsEdge}
 
 -- for each record whether it was seen at this turn
 abbrev pub seen_in : ℕ → List ℕ → List Bool
@@ -14,7 +15,7 @@ IsNewEdge seen front key e = IsEdge front key e × (slice_index_or seen e false 
 
 -- the edges of a key behind these records
 abbrev pub AreEdges : List RecordValue → Key → List ℕ → Type 0
-AreEdges front key edges = AllByRecursion (IsEdge front key) edges × AreDistinct edges
+AreEdges front key edges = AllByRecursion (IsEdge front key) edges × NoneTwice (λ e. e) edges
 
 -- e is none of these
 abbrev pub IsNoneOf : List ℕ → ℕ → Type 0

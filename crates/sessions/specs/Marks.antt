@@ -1,7 +1,5 @@
--- Marks: their numbers, and which kinds are inputs.
+-- Marks: their numbers, and which one inputs have.
 use Rattle.std.specs.Prelude.{ℕ, Bool, true, false}
-use Rattle.item_ids.specs.declared.kind.Kind.{Kind}
-use Rattle.item_ids.specs.declared.kind.Kind.TheVariants.{Files, Source}
 use Rattle.sessions.specs.declared.mark.Mark.{Mark}
 use Rattle.sessions.specs.declared.mark.Mark.TheVariants.{Input, Executed, Green}
 
@@ -9,12 +7,6 @@ abbrev pub mark_number : Mark → ℕ
 mark_number Input = 0
 mark_number Executed = 1
 mark_number Green = 2
-
--- whether keys of the kind are inputs, which no query computes
-abbrev pub is_input : Kind → Bool
-is_input Files = true
-is_input Source = true
-is_input _ = false
 
 -- whether a key that became done so is an input
 abbrev pub is_input_mark : Mark → Bool

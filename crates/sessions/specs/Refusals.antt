@@ -1,9 +1,10 @@
 -- Which fault a number and records have.
 use Rattle.std.specs.Prelude.{◌≡◌, ℕ, ◌+◌, ◌<◌, ◌≤◌, List, length, take, slice_index_or}
 use Rattle.item_ids.specs.declared.key.Key.{Key}
+use Rattle.result_bytes.specs.Values.{IsOfKind}
 use Rattle.sessions.specs.declared.fault.SessionFault.{SessionFault}
 use Rattle.sessions.specs.declared.fault.SessionFault.TheVariants.{Number, KeyOrder, InputKind, BadEdge, Result, OutOfMemory}
-use Rattle.sessions.specs.Sessions.{RecordValue, IsAbove, IsMarked, IsOfKind, AreRecords, most_number}
+use Rattle.sessions.specs.Sessions.{RecordValue, IsAbove, IsMarked, AreRecords, most_number}
 use Rattle.sessions.specs.Edges.{AreEdges}
 
 -- j is the place of the first edge that is none, or was there before
@@ -21,7 +22,7 @@ RefusesRecord front r (BadEdge i j) =
     (i ≡ length front) × IsAbove front r.key × IsMarked r × IsFirstBadEdge front r.key r.edges j
 RefusesRecord front r (Result i) =
     (i ≡ length front) × IsAbove front r.key × IsMarked r × AreEdges front r.key r.edges
-    × (¬ IsOfKind r)
+    × (¬ IsOfKind r.key r.value)
 RefusesRecord front r Number = ⊥
 RefusesRecord front r OutOfMemory = ⊥
 
@@ -40,6 +41,6 @@ IsRefused number records OutOfMemory = number ≤ most_number
 IsRefused number records fault = (number ≤ most_number) × RefusesRecords records fault
 
 -- a fact, unless memory ran out
-abbrev pub IsUnlessMemory : SessionFault → Type 0 → Type 0
-IsUnlessMemory OutOfMemory P = Unit {0}
-IsUnlessMemory fault P = P
+abbrev pub HoldsUnlessMemory : SessionFault → Type 0 → Type 0
+HoldsUnlessMemory OutOfMemory P = Unit {0}
+HoldsUnlessMemory fault P = P

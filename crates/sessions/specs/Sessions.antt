@@ -1,5 +1,5 @@
 -- What a session is, and what it says about each key.
-use Rattle.std.specs.Prelude.{◌≡◌, ◌≢◌, ℕ, ◌<◌, ◌≤◌, ◌^◌, List, [], ◌∷◌, map, length, take, find, slice_index_or, Option, Some, None, ◌+◌}
+use Rattle.std.specs.Prelude.{◌≡◌, ℕ, ◌<◌, ◌≤◌, ◌^◌, List, [], ◌∷◌, map, length, take, find, slice_index_or, Option, Some, None, ◌+◌, Bool, ◌==◌, count_by}
 use Rattle.std.specs.List.{AllByRecursion}
 use Rattle.std.specs.Ordering.{is_eq}
 use Rattle.std.specs.declared.cmp.Ordering.TheVariants.{Less}
@@ -8,15 +8,16 @@ use Rattle.std.specs.declared.alloc.Global.{Global}
 use Rattle.std.specs.declared.sync.Arc.{Arc}
 use Rattle.item_ids.specs.declared.key.Key.{Key}
 use Rattle.item_ids.specs.declared.key.Key.TheVariants.{Files}
-use Rattle.item_ids.specs.Kinds.{rank_of}
 use Rattle.item_ids.specs.Keys.{kind_of, key_cmp, IsKey}
+use Rattle.item_ids.specs.Inputs.{rank, is_input}
+use Rattle.item_ids.specs.KeyLists.{NoneTwice}
 use Rattle.result_bytes.specs.declared.value.Value.{Value}
-use Rattle.result_bytes.specs.Values.{IsValue, canon, kind_of_value}
+use Rattle.result_bytes.specs.Values.{IsValue, IsOfKind, canon}
 use Rattle.sessions.specs.declared.mark.Mark.{Mark}
 use Rattle.sessions.specs.declared.mark.Mark.TheVariants.{Green}
 use Rattle.sessions.specs.declared.terms.Form.TheVariants.{Two}
 use Rattle.sessions.specs.declared.terms.Terms.{Terms}
-use Rattle.sessions.specs.Marks.{is_input, is_input_mark}
+use Rattle.sessions.specs.Marks.{is_input_mark, mark_number}
 
 -- a key, how it became done, the indices of the records of the keys that it read, in order, and its
 -- result
@@ -32,9 +33,6 @@ pub record SessionValue : Type 0 where
   pub number : ℕ
   pub link : List ℕ
   pub records : List RecordValue
-
-abbrev pub rank : Key → ℕ
-rank key = rank_of (kind_of key)
 
 -- the key of the record at an index
 abbrev pub key_at : List RecordValue → ℕ → Key
@@ -58,15 +56,6 @@ IsMarked r = is_input_mark r.mark ≡ is_input (kind_of r.key)
 abbrev pub IsEdge : List RecordValue → Key → ℕ → Type 0
 IsEdge front key e = (e < length front) × (rank (key_at front e) < rank key)
 
--- no number is there twice
-abbrev pub AreDistinct : List ℕ → Type 0
-AreDistinct [] = Unit {0}
-AreDistinct (n ∷ ns) = AllByRecursion (λ m. m ≢ n) ns × AreDistinct ns
-
--- the result is of the key's kind
-abbrev pub IsOfKind : RecordValue → Type 0
-IsOfKind r = kind_of_value r.value ≡ kind_of r.key
-
 -- what a record keeps by its type alone
 pub record IsRecord (r : RecordValue) : Type 0 where
   pub names : IsKey r.key
@@ -79,8 +68,8 @@ pub record FitsBehind (front : List RecordValue) (r : RecordValue) : Type 0 wher
   pub above : IsAbove front r.key
   pub marked : IsMarked r
   pub edges : AllByRecursion (IsEdge front r.key) r.edges
-  pub once : AreDistinct r.edges
-  pub kind : IsOfKind r
+  pub once : NoneTwice (λ e. e) r.edges
+  pub kind : IsOfKind r.key r.value
   pub kept : IsRecord r
 
 -- each record fits behind those in front of it
@@ -120,15 +109,6 @@ entry_at s key = find (λ e. is_eq (key_cmp e.key key)) (entries s)
 abbrev pub AreInside : List RecordValue → List ℕ → Type 0
 AreInside records edges = AllByRecursion (λ e. e < length records) edges
 
--- each of the keys is of lower rank than the key
-abbrev pub AreBelow : Key → List Key → Type 0
-AreBelow key reads = AllByRecursion (λ e. rank e < rank key) reads
-
--- no key is there twice
-abbrev pub AreOnce : List Key → Type 0
-AreOnce [] = Unit {0}
-AreOnce (key ∷ keys) = AllByRecursion (λ e. e ≢ key) keys × AreOnce keys
-
 -- what a previous session, where there is one, says about a key
 abbrev pub past_entry : Option SessionValue → Key → Option Entry
 past_entry None key = None
@@ -144,6 +124,14 @@ IsTakenFrom past s =
 abbrev pub AreTaken : Option SessionValue → List SessionValue → Type 0
 AreTaken past [] = Unit {0}
 AreTaken past (s ∷ ss) = IsTakenFrom past s × AreTaken (Some s) ss
+
+-- a record has the mark; marks are known by their numbers
+abbrev pub has_mark : Mark → RecordValue → Bool
+has_mark mark r = mark_number r.mark == mark_number mark
+
+-- how many records have the mark
+abbrev pub many_of : Mark → List RecordValue → ℕ
+many_of mark records = count_by (has_mark mark) records
 
 -- the session behind an owner
 abbrev pub session_in : Option (Arc SessionValue Global) → Option SessionValue

@@ -60,6 +60,6 @@ next_link None = replicate 32 0
 next_link (Some past) = digest_of past
 
 -- what a session keeps by its type: it is one, and a digest that is kept is that of its file
-pub record Keeps (s : SessionValue) (digest : Option (List ℕ)) : Type 0 where
+pub record KeepsDigest (s : SessionValue) (digest : Option (List ℕ)) : Type 0 where
   pub session : IsSession s
   pub digest_is : IfSome digest (λ d. d ≡ digest_of s)

@@ -3,10 +3,12 @@ ghost use Rattle.std.specs.Prelude.{◌≡◌, ◌<◌, ◌↔◌, false, length
 ghost use Rattle.std.specs.List.{AllByRecursion};
 ghost use Rattle.std.specs.declared.cmp.Ordering.TheVariants.{Less};
 ghost use Rattle.item_ids.specs.Keys.{key_cmp, IsKey};
-ghost use Rattle.sessions.specs.Marks.{is_input, is_input_mark};
-ghost use Rattle.sessions.specs.Sessions.{AreRecords, FitsBehind, IsAbove, IsOfKind, IsRecord};
+ghost use Rattle.item_ids.specs.Inputs.{is_input};
+ghost use Rattle.result_bytes.specs.Values.{IsOfKind};
+ghost use Rattle.sessions.specs.Marks.{is_input_mark};
+ghost use Rattle.sessions.specs.Sessions.{AreRecords, FitsBehind, IsAbove, IsRecord};
 ghost use Rattle.sessions.specs.Edges.{AreEdges};
-ghost use Rattle.sessions.specs.Refusals.{IsFirstBadEdge, IsUnlessMemory, RefusesRecord, RefusesRecords};
+ghost use Rattle.sessions.specs.Refusals.{IsFirstBadEdge, HoldsUnlessMemory, RefusesRecord, RefusesRecords};
 
 use crate::fault::SessionFault;
 use crate::mark::Mark;
@@ -21,7 +23,7 @@ use std::alloc::Global;
 pub(crate) fn check_records(alloc: Global, records: &[Record]) -> Result<(), SessionFault>
     ensures fit { OnOk result (AreRecords records.now) }
     ensures refused { IfErr result
-        (λ fault. IsUnlessMemory fault (RefusesRecords records.now fault)) }
+        (λ fault. HoldsUnlessMemory fault (RefusesRecords records.now fault)) }
 {
     let mut seen = SeenEdges::new(alloc);
     for (i, item) in records.iter().enumerate() {
@@ -110,7 +112,7 @@ fn first_bad_edge(
 
 /// Whether the result is of the key's kind.
 fn is_of_kind(item: &Record) -> bool
-    ensures { IsTrue result ↔ IsOfKind item.now }
+    ensures { IsTrue result ↔ IsOfKind item.now.key item.now.value }
 {
     item.sealed().value().kind() == item.key().kind()
 }

@@ -18,5 +18,5 @@ pub use laws::edges_are_below;
 pub use mark::Mark;
 pub use record::Record;
 pub use seen::SeenEdges;
-pub use session::Session;
+pub use session::{Session, share};
 pub use terms::{Form, Terms};

@@ -1,7 +1,8 @@
 //! Which records are edges.
 ghost use Rattle.std.specs.Prelude.{◌≡◌, ◌+◌, ◌<◌, ◌↔◌, [], false, true, length, OnOk, IsTrue, if◌then◌else◌, slice_set};
 ghost use Rattle.std.specs.List.{AllByRecursion};
-ghost use Rattle.sessions.specs.Sessions.{rank as rank_of_key, key_at, IsEdge};
+ghost use Rattle.item_ids.specs.Inputs.{rank as rank_of_key};
+ghost use Rattle.sessions.specs.Sessions.{key_at, IsEdge};
 ghost use Rattle.sessions.specs.Edges.{IsNewEdge};
 
 use crate::record::Record;

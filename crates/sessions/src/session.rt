@@ -1,17 +1,19 @@
 //! Sessions.
 ghost use Rattle.std.specs.Prelude.{◌≡◌, ◌≢◌, ◌≤◌, ◌<◌, Some, None, IfOk, IfErr, IfSome, IfNone, IsTrue, MatchOption, All, HoldsAt, length};
-ghost use Rattle.sessions.specs.Sessions.{most_number, AreRecords, AreInside, IsSession, entry_at, entry_of};
+ghost use Rattle.sessions.specs.Sessions.{most_number, AreRecords, AreInside, IsSession, entry_at, entry_of, has_mark, many_of, session_in};
 ghost use Rattle.sessions.specs.Refusals.{IsRefused};
 ghost use Rattle.sessions.specs.Spelling.{digest_of};
 ghost use Rattle.sessions.specs.Terms.{first_terms};
 
 use crate::checks::check_records;
 use crate::fault::SessionFault;
+use crate::mark::Mark;
 use crate::record::Record;
 use crate::terms::Terms;
 use item_ids::Key;
-use std::alloc::Global;
+use std::alloc::{AllocError, Global};
 use std::marker::Model;
+use std::sync::Arc;
 
 /// A session: its terms, its number in its chain, its link, which is the SHA-256 of the previous session's file (zeros
 /// where there is none), and its records. Where the SHA-256 of its own file is known, it keeps that too; contracts don't
@@ -52,9 +54,9 @@ impl Model for Session {
       records = s.records.items;
     } };
 
-    ghost use Rattle.sessions.specs.Spelling.{Keeps};
+    ghost use Rattle.sessions.specs.Spelling.{KeepsDigest};
 
-    ghost invariant = { λ s. Keeps (record {
+    ghost invariant = { λ s. KeepsDigest (record {
       terms = s.terms;
       number = s.number;
       link = s.link;
@@ -220,6 +222,37 @@ impl Session {
             Some(at) => Some(&records[at]),
             None => None,
         }
+    }
+
+    /// How many records have this mark.
+    pub fn count(&self, mark: Mark) -> usize
+        ensures { result ≡ many_of mark self.now.records }
+    {
+        count_in(self.records(), mark)
+    }
+}
+
+/// How many records have this mark.
+fn count_in(records: &[Record], mark: Mark) -> usize
+    ensures { result ≡ many_of mark records.now }
+{
+    records.iter().filter(|item| has_mark(item, mark)).count()
+}
+
+/// Whether a record has this mark.
+fn has_mark(item: &Record, mark: Mark) -> bool
+    ensures { result ≡ has_mark mark item.now }
+{
+    item.mark().number() == mark.number()
+}
+
+/// One more owner of a session, where there is one.
+pub fn share(session: &Option<Arc<Session>>) -> Result<Option<Arc<Session>>, AllocError>
+    ensures { IfOk result (λ shared. session_in shared ≡ session_in session.now) }
+{
+    match session {
+        Some(session) => Ok(Some(Arc::try_clone(session)?)),
+        None => Ok(None),
     }
 }
 

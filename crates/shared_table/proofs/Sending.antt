@@ -6,8 +6,8 @@ use Rattle.std.proofs.sync.Condvar.TheSendSync as condvar
 use Rattle.std.proofs.sync.Mutex.TheSendSync as mutex
 use Rattle.std.proofs.sync.ledger.Book.TheSendSync as book
 use Rattle.std.specs.declared.sync.ledger.Ledger as ledger
-use Rattle.crossing.proofs.Maps.{IndexMap-send}
-use Rattle.crossing.proofs.Results.{sealed_results}
+use Rattle.send_sync.proofs.Maps.{IndexMap-send}
+use Rattle.send_sync.proofs.Results.{sealed_results}
 use Rattle.mj_project.specs.contracts.project.Project as project
 use Rattle.sessions.specs.contracts.record.Record as record_type
 use Rattle.sessions.specs.contracts.session.Session as session
@@ -23,8 +23,8 @@ use Rattle.known_list.specs.declared.naming.ListNaming as list_naming
 use Rattle.known_list.proofs.Sending.{known_send, known_sync}
 use Rattle.known_list.proofs.list.Head.TheSendSync as head_crosses
 use Rattle.shared_table.specs.declared.naming.Naming as naming
-use Rattle.shared_table.specs.contracts.desk.Desk as desk
-use Rattle.shared_table.specs.contracts.desk.Desk.TheInside as desk_inside
+use Rattle.shared_table.specs.contracts.locked.Locked as locked
+use Rattle.shared_table.specs.contracts.locked.Locked.TheInside as locked_inside
 use Rattle.shared_table.specs.contracts.counted.Counted as counted
 use Rattle.shared_table.specs.contracts.counted.Counted.TheInside as inside
 use denote.Struct.Declared as declared
@@ -82,16 +82,16 @@ module _ (J R : RattleType) (g : naming.Ghosts J.Denot) (g' : ledger.Ghosts J.De
   counted_send s y = let c = counted.the_row J R g g' l g'' in
       view_send (inside.the_row J R g g' l g'') c.Denot c.coded (counted.the_view J R g g' l g'') (counted.the_invariant J R g g' l g'') (inside_send s y)
 
-  desk_inside_send : IsSend R → IsSync R → IsSend (desk_inside.the_row J R l g g' g'')
-  desk_inside_send s y = let T = desk_inside.the_type J R l g g' g'' in
-      recorded_send (desk_inside.the_field J R l g g' g'').row _ _ T.to_one
+  locked_inside_send : IsSend R → IsSync R → IsSend (locked_inside.the_row J R l g g' g'')
+  locked_inside_send s y = let T = locked_inside.the_type J R l g g' g'' in
+      recorded_send (locked_inside.the_field J R l g g' g'').row _ _ T.to_one
       (struct_send (declared.shape T) (counted_send s y, (head_crosses.the_field_send J read.the_row l, (known_send J read.the_row l, tt))))
 
-  desk_send : IsSend R → IsSync R → IsSend (desk.the_row J R l g g' g'')
-  desk_send s y = let d = desk.the_row J R l g g' g'' in
-      view_send (desk_inside.the_row J R l g g' g'') d.Denot d.coded (desk.the_view J R l g g' g'') (desk.the_invariant J R l g g' g'') (desk_inside_send s y)
+  locked_send : IsSend R → IsSync R → IsSend (locked.the_row J R l g g' g'')
+  locked_send s y = let d = locked.the_row J R l g g' g'' in
+      view_send (locked_inside.the_row J R l g g' g'') d.Denot d.coded (locked.the_view J R l g g' g'') (locked.the_invariant J R l g g' g'') (locked_inside_send s y)
 
   pub shared_sync : IsSend R → IsSync R → IsSync (shared.the_row J R g l g'' g')
   shared_sync s y = let T = shared.the_type J R g l g'' g' in
       recorded_sync (shared.the_field J R g l g'' g').row _ _ T.to_one
-      (struct_sync (declared.shape T) (mutex.the_sync (desk.the_row J R l g g' g'') (desk_send s y), (condvar.the_field_sync, (search sealed_results depth 60 fits 20000, (search (session_send, session_sync, sealed_results) depth 60 fits 20000, (known_sync J read.the_row l, tt))))))
+      (struct_sync (declared.shape T) (mutex.the_sync (locked.the_row J R l g g' g'') (locked_send s y), (condvar.the_field_sync, (search sealed_results depth 60 fits 20000, (search (session_send, session_sync, sealed_results) depth 60 fits 20000, (known_sync J read.the_row l, tt))))))

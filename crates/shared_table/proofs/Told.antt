@@ -1,5 +1,5 @@
 -- What was told of keys that are done, while the table goes on.
-use Rattle.std.proofs.Common.{◌≡◌, ℕ, List, [], ◌∷◌, ◌++◌, sym, subst, Contains, refl, arith}
+use Rattle.std.proofs.Common.{◌≡◌, ◌⊎◌, inl, inr, ℕ, List, [], ◌∷◌, ◌++◌, sym, subst, Contains, refl, arith}
 use Rattle.std.specs.Prelude.{Result, Ok, Err, IfOk, IfErr}
 use Rattle.std.specs.List.{AllByRecursion}
 use Rattle.std.proofs.lemmas.List.Elements.{All-contains, All-from_recursion}
@@ -117,3 +117,14 @@ module _ (v : Value) where
   own_again (Ok asked.Busy) found out = found
   own_again (Ok asked.Stopped) found out = found
   own_again (Err why) found out = subst (λ (x : TableFault). IsOwnAnswer (Err x)) (sym out) tt
+
+-- ---- an answer that is kept, if memory allows it
+
+module _ (q : Key) (a r : Result Asked TableFault) where
+  pub kept_claims : (r ≡ a) ⊎ (r ≡ Err fault.OutOfMemory) → ClaimsNoInput q a → ClaimsNoInput q r
+  kept_claims (inl same) claims = subst (λ (x : Result Asked TableFault). ClaimsNoInput q x) (sym same) claims
+  kept_claims (inr out) claims = λ yours. absurd (cc (yours, out))
+
+  pub kept_given : (G : Result Asked TableFault → Type 0) → (r ≡ a) ⊎ (r ≡ Err fault.OutOfMemory) → G a → IsOwnAnswer r ⊎ G r
+  kept_given G (inl same) given = inr (subst G (sym same) given)
+  kept_given G (inr out) given = inl (subst (λ (x : Result Asked TableFault). IsOwnAnswer x) (sym out) tt)

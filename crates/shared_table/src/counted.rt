@@ -24,7 +24,8 @@ use std::sync::Arc;
 use std::sync::ledger::{Book, Share};
 
 /// The table of the session that its name stands for, and the sum of its workers' events, which is the length of the
-/// table's history. Each call is that of the table, and its event is counted for the worker that made it.
+/// table's history. Its role is to count: each call is that of the table, and its event is counted for the worker that
+/// made it. A worker who is alone works at it, and several at one that is locked.
 pub struct Counted<J: Naming, R: Runner> {
     table: Table<R>,
     book: Book<J>,

@@ -4,10 +4,11 @@
 
 mod alone;
 mod counted;
-mod desk;
 mod gate;
-mod kept;
+mod locked;
+mod memo;
 mod naming;
+mod opening;
 mod seat;
 mod shared;
 mod tally;
@@ -15,7 +16,10 @@ mod tally;
 pub use alone::Alone;
 pub use counted::Counted;
 pub use gate::{Gate, Open};
+pub use job_table::{CloseFault, OpenFault, Table};
+pub use mark_green::{Fault, Store, Worker};
 pub use naming::Naming;
+pub use opening::Opening;
 pub use seat::Seat;
 pub use shared::Shared;
 pub use tally::Tally;

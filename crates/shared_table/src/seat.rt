@@ -6,12 +6,12 @@ ghost use Rattle.sessions.specs.Sessions.{session_in};
 ghost use Rattle.graph_rules.specs.Steps.{AreHeld};
 ghost use Rattle.job_table.specs.Tables.{state_of};
 ghost use Rattle.job_table.specs.Calls.{AskGives, MarkGives, BeginGives, FinishGives, FailGives};
-ghost use Rattle.mark_green.specs.Leaves.{Knows, Tells, ClaimsNoInput, StaysTold, TellsDone, AreTold};
+ghost use Rattle.mark_green.specs.Leaves.{Knows, KnowsChange, ClaimsNoInput, StaysTold, TellsDone, AreTold};
 ghost use Rattle.shared_table.specs.Told.{IsFound, is_told, MarkTells, FinishTells};
 ghost use Rattle.shared_table.specs.Given.{IsGiven, IsOwnAnswer};
 
 use crate::gate::Gate;
-use crate::kept::Kept;
+use crate::memo::Memo;
 use crate::naming::Naming;
 use crate::shared::Shared;
 use crate::tally::Tally;
@@ -34,7 +34,7 @@ pub struct Seat<'a, J: Naming, R: Runner, T: Wait, G: Gate> {
     shared: &'a Shared<J, R>,
     gate: &'a G,
     tally: &'a mut Tally<J>,
-    kept: Kept<J>,
+    memo: Memo<J>,
 }
 
 impl<'a, J: Naming, R: Runner, T: Wait, G: Gate> Seat<'a, J, R, T, G> {
@@ -43,14 +43,14 @@ impl<'a, J: Naming, R: Runner, T: Wait, G: Gate> Seat<'a, J, R, T, G> {
         shared: &'a Shared<J, R>,
         gate: &'a G,
         tally: &'a mut Tally<J>,
-        kept: Kept<J>,
+        memo: Memo<J>,
     ) -> Self {
         Seat {
             rt,
             shared,
             gate,
             tally,
-            kept,
+            memo,
         }
     }
 }
@@ -62,45 +62,57 @@ impl<J: Naming, R: Runner, T: Wait, G: Gate> Store for Seat<'_, J, R, T, G> {
 
     ghost table = { λ s. None };
 
-    ghost told = { λ s q v. is_told s.kept q v };
+    ghost told = { λ s q v. is_told s.memo q v };
 
     ghost outcome_in = { λ o. arc_value o };
 
     fn ask(&mut self, w: u32, key: &Key) -> Result<Asked, TableFault>
-        ensures gives { Tells (λ t u. AskGives t w key.now result u) None None }
+        ensures gives { KnowsChange (λ t u. AskGives t w key.now result u) None None }
         ensures claims { ClaimsNoInput key.now result }
-        ensures told { TellsDone (is_told self.new.kept) key.now result }
-        ensures stays { StaysTold (is_told self.old.kept) (is_told self.new.kept) }
+        ensures told { TellsDone (is_told self.new.memo) key.now result }
+        ensures stays { StaysTold (is_told self.old.memo) (is_told self.new.memo) }
         ensures given { IsOwnAnswer result
             ⊎ IsGiven R.queries J.opened (λ t u. AskGives t w key.now result u) }
     {
-        if let Some(sealed) = self.kept.get(key) {
+        if let Some(sealed) = self.memo.get(key) {
             return again(sealed);
         }
-        let answer = self.shared.ask(self.rt, self.tally, &mut self.kept, w, key);
-        if self.kept.keeps(key, &answer) {
-            answer
-        } else {
-            Err(TableFault::OutOfMemory)
+        'asks: for _ in self.rt.forever() {
+            let mut locked = self.shared.locked.lock(self.rt);
+            locked.laws();
+            let answer = locked.ask(self.tally, &mut self.memo, w, key);
+            if is_busy(&answer) {
+                drop(self.shared.changed.wait(self.rt, locked));
+            } else {
+                drop(locked);
+                return self.keep(key, answer);
+            }
         }
+        unreachable!()
     }
 
     fn mark(&mut self, w: u32, key: &Key) -> Result<Arc<Sealed>, TableFault>
-        ensures gives { Tells (λ t u. MarkGives t w key.now result u) None None }
-        ensures told { IfOk result (λ a. is_told self.new.kept key.now (arc_value a)) }
-        ensures stays { StaysTold (is_told self.old.kept) (is_told self.new.kept) }
+        ensures gives { KnowsChange (λ t u. MarkGives t w key.now result u) None None }
+        ensures told { IfOk result (λ a. is_told self.new.memo key.now (arc_value a)) }
+        ensures stays { StaysTold (is_told self.old.memo) (is_told self.new.memo) }
         ensures given { IsGiven R.queries J.opened (λ t u. MarkTells t w key.now result u) }
     {
-        self.shared
-            .mark(self.rt, self.tally, &mut self.kept, w, key)
+        let mut locked = self.shared.locked.lock(self.rt);
+        locked.laws();
+        let answer = locked.mark(self.tally, &mut self.memo, w, key);
+        self.shared.wake(locked);
+        answer
     }
 
     fn begin_run(&mut self, w: u32, key: &Key) -> Result<(), TableFault>
-        ensures gives { Tells (λ t u. BeginGives t w key.now result u) None None }
-        ensures stays { StaysTold (is_told self.old.kept) (is_told self.new.kept) }
+        ensures gives { KnowsChange (λ t u. BeginGives t w key.now result u) None None }
+        ensures stays { StaysTold (is_told self.old.memo) (is_told self.new.memo) }
         ensures given { IsGiven R.queries J.opened (λ t u. BeginGives t w key.now result u) }
     {
-        let answer = self.shared.begin_run(self.rt, self.tally, w, key);
+        let mut locked = self.shared.locked.lock(self.rt);
+        locked.laws();
+        let answer = locked.begin_run(self.tally, w, key);
+        drop(locked);
         if let Ok(()) = &answer {
             self.gate.before_run(w, key);
         }
@@ -109,30 +121,35 @@ impl<J: Naming, R: Runner, T: Wait, G: Gate> Store for Seat<'_, J, R, T, G> {
 
     fn finish(&mut self, w: u32, outcome: Arc<Outcome<R>>) -> Result<(), TableFault>
         requires held { Knows (λ t. AreHeld (state_of t) (arc_value outcome).told) None }
-        requires told { AreTold (is_told self.old.kept) (arc_value outcome).told }
-        ensures gives { Tells (λ t u. FinishGives t w (arc_value outcome) result u) None None }
-        ensures told { IfOk result (λ _. is_told self.new.kept (arc_value outcome).key
+        requires told { AreTold (is_told self.old.memo) (arc_value outcome).told }
+        ensures gives { KnowsChange (λ t u. FinishGives t w (arc_value outcome) result u) None None }
+        ensures told { IfOk result (λ _. is_told self.new.memo (arc_value outcome).key
             (arc_value outcome).value) }
-        ensures stays { StaysTold (is_told self.old.kept) (is_told self.new.kept) }
+        ensures stays { StaysTold (is_told self.old.memo) (is_told self.new.memo) }
         ensures given { (result ≡ Err fault.OutOfMemory)
             ⊎ IsGiven R.queries J.opened (λ t u. FinishTells t w (arc_value outcome) result u) }
     {
         let Ok(ended) = Arc::try_clone(&outcome) else {
             return Err(TableFault::OutOfMemory);
         };
-        let answer = self
-            .shared
-            .finish(self.rt, self.tally, &mut self.kept, w, outcome, &ended);
+        let mut locked = self.shared.locked.lock(self.rt);
+        locked.laws();
+        let answer = locked.finish(self.tally, &mut self.memo, w, outcome, &ended);
+        self.shared.wake(locked);
         after_run(self.gate, w, &ended, &answer);
         answer
     }
 
     fn fail(&mut self, w: u32) -> Result<(), TableFault>
-        ensures gives { Tells (λ t u. FailGives t w result u) None None }
-        ensures stays { StaysTold (is_told self.old.kept) (is_told self.new.kept) }
+        ensures gives { KnowsChange (λ t u. FailGives t w result u) None None }
+        ensures stays { StaysTold (is_told self.old.memo) (is_told self.new.memo) }
         ensures given { IsGiven R.queries J.opened (λ t u. FailGives t w result u) }
     {
-        self.shared.fail(self.rt, self.tally, w)
+        let mut locked = self.shared.locked.lock(self.rt);
+        locked.laws();
+        let answer = locked.fail(self.tally, w);
+        self.shared.wake(locked);
+        answer
     }
 
     fn terms(&self) -> Terms
@@ -148,6 +165,27 @@ impl<J: Naming, R: Runner, T: Wait, G: Gate> Store for Seat<'_, J, R, T, G> {
     {
         self.shared.past()
     }
+}
+
+impl<J: Naming, R: Runner, T: Wait, G: Gate> Seat<'_, J, R, T, G> {
+    /// Keeps the result of a key that was found done.
+    fn keep(&mut self, key: &Key, answer: Result<Asked, TableFault>) -> Result<Asked, TableFault>
+        requires told { TellsDone (is_told self.old.memo) key.now answer }
+        ensures told { TellsDone (is_told self.new.memo) key.now result }
+        ensures same { self.new.memo ≡ self.old.memo }
+        ensures answer { (result ≡ answer) ⊎ (result ≡ Err fault.OutOfMemory) }
+    {
+        if self.memo.keeps(key, &answer) {
+            answer
+        } else {
+            Err(TableFault::OutOfMemory)
+        }
+    }
+}
+
+/// Whether another worker has the key.
+fn is_busy(answer: &Result<Asked, TableFault>) -> bool {
+    matches!(answer, Ok(Asked::Busy))
 }
 
 /// Calls the gate after a run that was ended.

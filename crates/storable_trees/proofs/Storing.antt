@@ -1,12 +1,12 @@
 -- The tree of tokens that fit can be stored.
-use Rattle.std.proofs.Common.{◌≡◌, ℕ, zero, suc, ◌+◌, ◌<◌, ◌≤◌, List, [], ◌∷◌, length, drop, Option, Some, None, refl, subst, arith}
+use Rattle.std.proofs.Common.{◌≡◌, ℕ, zero, suc, ◌+◌, ◌≤◌, List, [], ◌∷◌, length, drop, Option, Some, None, refl, subst, arith}
 use Rattle.std.specs.Prelude.{All, slice_get, IfSome, codes}
 use Rattle.std.specs.List.{AllByRecursion}
 use Rattle.std.proofs.lemmas.List.{length-drop}
 use Rattle.std.proofs.lemmas.List.Elements.{All-get_or, All-drop}
 use Rattle.std.proofs.lemmas.Option.{slice_get_within, get_or_from_slice_get}
-use Rattle.mj_lexer.specs.declared.token.Kind.{Kind}
-use Rattle.mj_lexer.specs.declared.token.Kind.TheVariants as kinds
+use Rattle.mj_lexer.specs.declared.token.TokenKind.{TokenKind}
+use Rattle.mj_lexer.specs.declared.token.TokenKind.TheVariants as kinds
 use Rattle.mj_lexer.specs.declared.token.Token.{Token}
 use Rattle.mj_lexer.specs.declared.token.Terminal.TheVariants as terminals
 use Rattle.mj_lexer.specs.Bytes.{greatest_literal}
@@ -21,20 +21,22 @@ use Rattle.mj_expressions.specs.Tokens.{token_kind, name_of, value_of, name_at, 
 use Rattle.mj_expressions.specs.Expressions.{terminal_of, terminal_of_bool, any_tier, height, heights, sizes, IsExp, AreArguments, AreMore}
 use Rattle.mj_parser.specs.Statements.{stmt_height, stmts_height, stmts_size, IsStmt, AreStmts}
 use Rattle.mj_parser.specs.Rows.{InRow, row_size, row_height}
-use Rattle.mj_parser.specs.Declarations.{type_size, IsType, IsVariable, variable_size, IsMoreFormal, more_formal_size, formals_size, AreFormals, IsLocal, local_size, field_size, IsField, IsSuperclass, head_size, method_size, method_height, formals_place, locals_place, body_place, return_place, IsMethod, IsMethodAt, class_size, class_height, IsClass, IsMainPart, main_part_size, main_part_height, Derives}
+use Rattle.mj_parser.specs.Declarations.{type_size, IsType, IsVariableAt, variable_size, IsMoreFormal, more_formal_size, formals_size, AreFormals, IsLocalAt, local_size, field_size, IsField, IsSuperclass, head_size, method_size, method_height, formals_place, locals_place, body_place, return_place, IsMethod, IsMethodAt, class_size, class_height, IsClass, IsMainPart, main_part_size, main_part_height, Derives}
 use Rattle.mj_expressions.proofs.Marks.{name_within, says_name}
 use Rattle.mj_expressions.proofs.Stands.{stands_within}
-use Rattle.mj_parser.proofs.StatementAgain.{print_name}
+use Rattle.mj_expressions.proofs.ExpressionAgain.{height_some}
+use Rattle.mj_parser.proofs.StatementAgain.{print_name, stmt_height_some}
+use Rattle.mj_parser.proofs.Bounds.{value_within}
 use Rattle.byte_readers.specs.Names.{IsName}
 use Rattle.tree_spelling.specs.Storable.{TyFits, FieldFits, VariableFits, ExpFits, ExpsFit, StmtFits, StmtsFit, TopStmtFits, TopStmtsFit, TopExpFits, MethodFits, MainFits, ClassFits, FileFits}
 use Rattle.storable_trees.proofs.TextTokens.{KindFits, TokenFits, tokens_fit, tokens_few}
-use Rattle.storable_trees.proofs.Counts.{some_height, some_stmt_height, arguments_count, statements_count, row_count, formals_count}
+use Rattle.storable_trees.proofs.Counts.{arguments_count, statements_count, row_count, formals_count}
 
 name_kind : (k : Option Token) (name : Name) → ((t : Token) → k ≡ Some t → TokenFits t) → name_of (token_kind k) ≡ Some name → IsName name
 name_kind None name fit e = absurd cc
 name_kind (Some t) name fit e = of_kind t.kind (fit t refl) e
   where
-    of_kind : (kind : Kind) → KindFits kind → name_of (Some kind) ≡ Some name → IsName name
+    of_kind : (kind : TokenKind) → KindFits kind → name_of (Some kind) ≡ Some name → IsName name
     of_kind (kinds.Identifier other) f e = let same : other ≡ name = cc in subst IsName same f
     of_kind (kinds.Literal value) f e = absurd cc
     of_kind (kinds.Terminal terminal) f e = absurd cc
@@ -43,18 +45,10 @@ value_kind : (k : Option Token) (value : ℕ) → ((t : Token) → k ≡ Some t 
 value_kind None value fit e = absurd cc
 value_kind (Some t) value fit e = of_kind t.kind (fit t refl) e
   where
-    of_kind : (kind : Kind) → KindFits kind → value_of (Some kind) ≡ Some value → value ≤ greatest_literal
+    of_kind : (kind : TokenKind) → KindFits kind → value_of (Some kind) ≡ Some value → value ≤ greatest_literal
     of_kind (kinds.Identifier other) f e = absurd cc
     of_kind (kinds.Literal other) f e = let same : other ≡ value = cc in subst (λ (v : ℕ). v ≤ greatest_literal) same f
     of_kind (kinds.Terminal terminal) f e = absurd cc
-
-value_token : (ts : List Token) (j value : ℕ) (k : Option Token) → slice_get ts j ≡ k → value_of (token_kind k) ≡ Some value → j < length ts
-value_token ts j value None e h = absurd cc
-value_token ts j value (Some t) e h = slice_get_within ts j t e
-
-value_within : (ts : List Token) (j value : ℕ) → value_at ts j ≡ Some value → j < length ts
-unfolding value_at
-value_within ts j value h = value_token ts j value (slice_get ts j) refl h
 
 module _ (ts : List Token) (fit : All TokenFits ts) (few : length ts ≤ limit) where
   token_fits : (j : ℕ) (t : Token) → slice_get ts j ≡ Some t → TokenFits t
@@ -70,7 +64,7 @@ module _ (ts : List Token) (fit : All TokenFits ts) (few : length ts ≤ limit) 
 
   mutual
     exp_fits : (room d i : ℕ) (e : Expression) → height e ≤ room → IsExp ts d i e → ExpFits room e
-    exp_fits zero d i e low h = absurd (let some = some_height e in omega arith)
+    exp_fits zero d i e low h = absurd (let some = height_some e in omega arith)
     exp_fits (suc room) d i (Binary o m l r) low h = let w = stands_within ts m (terminal_of o) h.3 in (omega arith, (exp_fits room _ i l (omega arith) h.1, exp_fits room _ (m + 1) r (omega arith) h.4))
     exp_fits (suc room) d i (Index m a x) low h = let w = stands_within ts m terminals.LeftBracket h.3 in (omega arith, (exp_fits room _ i a (omega arith) h.0, exp_fits room _ (m + 1) x (omega arith) h.4))
     exp_fits (suc room) d i (Length m a) low h = let w = name_within ts m (codes "length") (says_name ts m (codes "length") h.3) in (omega arith, exp_fits room _ i a (omega arith) h.0)
@@ -98,7 +92,7 @@ module _ (ts : List Token) (fit : All TokenFits ts) (few : length ts ≤ limit) 
 
   mutual
     stmt_fits : (room i : ℕ) (s : Statement) → stmt_height s ≤ room → IsStmt ts i s → StmtFits room s
-    stmt_fits zero i s low h = absurd (let some = some_stmt_height s in omega arith)
+    stmt_fits zero i s low h = absurd (let some = stmt_height_some s in omega arith)
     stmt_fits (suc room) i (Block m body) low h =
         let w = stands_within ts i terminals.LeftBrace h.1 in
         let at = h.0 in
@@ -121,13 +115,13 @@ module _ (ts : List Token) (fit : All TokenFits ts) (few : length ts ≤ limit) 
   type_fits i types.IntArray h = tt
   type_fits i (types.Class name) h = name_fits i name h
 
-  variable_fits : (i : ℕ) (v : Variable) → IsVariable ts i v → VariableFits v
+  variable_fits : (i : ℕ) (v : Variable) → IsVariableAt ts i v → VariableFits v
   variable_fits i v h =
       let w = name_within ts (i + type_size v.ty) v.name h.2 in
       let at = h.0 in
       (name_fits (i + type_size v.ty) v.name h.2, (type_fits i v.ty h.1, omega arith))
 
-  locals_fit : (i : ℕ) (vs : List Variable) → InRow (IsLocal ts) local_size i vs → AllByRecursion VariableFits vs
+  locals_fit : (i : ℕ) (vs : List Variable) → InRow (IsLocalAt ts) local_size i vs → AllByRecursion VariableFits vs
   locals_fit i [] h = tt
   locals_fit i (v ∷ vs) h = let first = h.0 in (variable_fits i v first.0, locals_fit (i + local_size v) vs h.1)
 

@@ -6,9 +6,10 @@ use Rattle.std.proofs.lemmas.List.{length-drop}
 use Rattle.std.proofs.lemmas.List.Elements.{All-nil, All-cons}
 use Rattle.std.proofs.lemmas.Str.{IsUtf8-from_ascii, is_utf8-from_IsUtf8}
 use Rattle.std.specs.Str.{IsAscii}
-use Rattle.mj_lexer.specs.declared.token.Kind.{Kind}
-use Rattle.mj_lexer.specs.declared.token.Kind.TheVariants.{Identifier, Literal}
-use Rattle.mj_lexer.specs.declared.token.Kind.TheVariants as kinds
+use Rattle.std.proofs.lemmas.Bool.{and_parts}
+use Rattle.mj_lexer.specs.declared.token.TokenKind.{TokenKind}
+use Rattle.mj_lexer.specs.declared.token.TokenKind.TheVariants.{Identifier, Literal}
+use Rattle.mj_lexer.specs.declared.token.TokenKind.TheVariants as kinds
 use Rattle.mj_lexer.specs.declared.token.Token.{Token}
 use Rattle.mj_lexer.specs.declared.front.Front.TheVariants.{Word}
 use Rattle.mj_lexer.specs.Bytes.{is_letter, is_name_byte, greatest_literal}
@@ -16,11 +17,11 @@ use Rattle.mj_lexer.specs.Fronts.{IsWithin}
 use Rattle.mj_lexer.specs.Pieces.{is_word, IsToken, IsShort}
 use Rattle.mj_lexer.specs.Lexes.{limit, Cuts, here, blank, word, Lexes}
 use Rattle.mj_lexer.proofs.Only.{front_is}
-use Rattle.mj_lexer.proofs.Taken.{both_true}
 use Rattle.mj_lexer.proofs.Within.{letter_in_name, front_within}
+use Rattle.mj_lexer.proofs.Names.{name_byte_small}
 use Rattle.byte_readers.specs.Names.{IsName}
 
-abbrev pub KindFits : Kind → Type 0
+abbrev pub KindFits : TokenKind → Type 0
 KindFits (Identifier name) = IsName name
 KindFits (Literal value) = value ≤ greatest_literal
 KindFits (kinds.Terminal terminal) = Unit {0}
@@ -28,18 +29,15 @@ KindFits (kinds.Terminal terminal) = Unit {0}
 abbrev pub TokenFits : Token → Type 0
 TokenFits token = KindFits token.kind
 
-ascii_byte : (b : ℕ) → is_name_byte b ≡ true → b < 128
-ascii_byte b e = grind arith
-
 ascii_bytes : (bytes : List ℕ) → list_all is_name_byte bytes ≡ true → (i : ℕ) → slice_index bytes i < 128
 ascii_bytes [] e i = lit< tt
-ascii_bytes (b ∷ bytes) e zero = ascii_byte b (both_true (is_name_byte b) (list_all is_name_byte bytes) e).0
-ascii_bytes (b ∷ bytes) e (suc i) = ascii_bytes bytes (both_true (is_name_byte b) (list_all is_name_byte bytes) e).1 i
+ascii_bytes (b ∷ bytes) e zero = name_byte_small b (and_parts (is_name_byte b) (list_all is_name_byte bytes) e).0
+ascii_bytes (b ∷ bytes) e (suc i) = ascii_bytes bytes (and_parts (is_name_byte b) (list_all is_name_byte bytes) e).1 i
 
 ascii_word : (bytes : List ℕ) → is_word bytes ≡ true → IsAscii bytes
 ascii_word [] e = absurd cc
 ascii_word (b ∷ bytes) e =
-    let parts = both_true (is_letter b) (list_all is_name_byte bytes) e in
+    let parts = and_parts (is_letter b) (list_all is_name_byte bytes) e in
     ascii_bytes (b ∷ bytes) (rw (letter_in_name b parts.0, parts.1) refl)
 
 some_word : (bytes : List ℕ) → is_word bytes ≡ true → 0 < length bytes
@@ -53,7 +51,7 @@ name_word bytes e short = record {
   text = is_utf8-from_IsUtf8 bytes (IsUtf8-from_ascii bytes (ascii_word bytes e));
 }
 
-kind_fits : (bytes : List ℕ) (kind : Kind) → IsToken bytes kind → IsShort kind → KindFits kind
+kind_fits : (bytes : List ℕ) (kind : TokenKind) → IsToken bytes kind → IsShort kind → KindFits kind
 kind_fits bytes (Identifier name) is short =
     let same = is.1 in
     subst IsName (sym same) (name_word bytes is.0 (rw same at short))

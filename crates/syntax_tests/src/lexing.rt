@@ -1,5 +1,5 @@
 //! Tests: expected values are from the language's rules and its worked examples.
-use mj_lexer::{Kind, Name, Token, lex, line_col};
+use mj_lexer::{Name, Token, TokenKind, lex, line_col};
 use std::alloc::{AllocError, Global};
 use std::hash::{DefaultHasher, Hash, Hasher};
 use std::test::Fail;
@@ -22,9 +22,9 @@ fn told_token(alloc: Global, token: &Token) -> Result<String, AllocError> {
     let start = token.start;
     let end = token.end;
     match &token.kind {
-        Kind::Identifier(name) => format!(in alloc; "`{name}` {start}-{end};"),
-        Kind::Literal(value) => format!(in alloc; "{value} {start}-{end};"),
-        Kind::Terminal(terminal) => format!(in alloc; "{terminal:?} {start}-{end};"),
+        TokenKind::Identifier(name) => format!(in alloc; "`{name}` {start}-{end};"),
+        TokenKind::Literal(value) => format!(in alloc; "{value} {start}-{end};"),
+        TokenKind::Terminal(terminal) => format!(in alloc; "{terminal:?} {start}-{end};"),
     }
 }
 

@@ -6,7 +6,7 @@ use Rattle.std.specs.declared.alloc.Global.{Global}
 use Rattle.std.specs.declared.sync.Arc.{Arc}
 use Rattle.recorder.specs.Projects.{Project}
 use Rattle.sessions.specs.Sessions.{SessionValue}
-use Rattle.driver.specs.declared.reports.Reports.{Reports}
+use Rattle.mini_java.specs.Reports.{Reports}
 use Rattle.answer_fixtures.specs.declared.unfit.Unfit.{Unfit}
 use Rattle.table_fixtures.specs.declared.driving.Counts.{Counts}
 use Rattle.table_fixtures.specs.Reported.{IsMade, HasCounts, IsReported}

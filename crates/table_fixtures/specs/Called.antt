@@ -35,7 +35,7 @@ use Rattle.table_fixtures.specs.declared.calls.Saying.{Saying}
 use Rattle.table_fixtures.specs.declared.changes.Change.{Change}
 use Rattle.table_fixtures.specs.declared.histories.History.{History}
 use Rattle.table_fixtures.specs.declared.replays.Replay.{Replay}
-use Rattle.table_fixtures.specs.Told.{InTurn, IsRunOf, AreChanged, IsNextOf, IsLastOf, IsTableOf}
+use Rattle.table_fixtures.specs.Told.{InTurn, IsRunOf, AreChanged, IsNextOf, IsLastOf, IsOpenedTable}
 
 -- ---- what a call says
 
@@ -87,26 +87,26 @@ abbrev pub IsLast : List Kept → Kept → Type 0
 IsLast records kept = slice_get records (length records - 1) ≡ Some kept
 
 -- what the call says by w with q
-abbrev pub Says : Call → ℕ → Key → Said → TableValue → TableValue → Type 0
-Says calls.Ask w q said t u = SaysOfAsk w q said t u
-Says calls.Mark w q said t u = SaysOfMark w q said t u
-Says calls.Begin w q said t u = SaysOfBegin w q said t u
-Says (calls.Finish profile records) w q said t u =
+abbrev pub CallSays : Call → ℕ → Key → Said → TableValue → TableValue → Type 0
+CallSays calls.Ask w q said t u = SaysOfAsk w q said t u
+CallSays calls.Mark w q said t u = SaysOfMark w q said t u
+CallSays calls.Begin w q said t u = SaysOfBegin w q said t u
+CallSays (calls.Finish profile records) w q said t u =
     (kept : Kept) × IsLast records.now kept × SaysOfFinish profile records.now kept w said t u
-Says calls.Fail w q said t u = SaysOfFail w said t u
-Says calls.Close w q said t u = SaysOfClose said t × (u ≡ t)
+CallSays calls.Fail w q said t u = SaysOfFail w said t u
+CallSays calls.Close w q said t u = SaysOfClose said t × (u ≡ t)
 
 -- the call says what it should, and the table has this many events then
 pub record IsSaid (saying : Saying) (t u : TableValue) : Type 0 where
   pub key : Key
   pub of_key : IsKeyOf saying.key key
-  pub says : Says saying.call saying.worker key saying.said t u
+  pub says : CallSays saying.call saying.worker key saying.said t u
   pub events : length u.history ≡ saying.events
 
 -- each of the calls in turn says what it should
 pub record AreSaid (calls : Calls) : Type 0 where
   pub start : TableValue
-  pub opened : IsTableOf calls.terms calls.chain.now calls.text.now start
+  pub opened : IsOpenedTable calls.terms calls.chain.now calls.text.now start
   pub end : TableValue
   pub said : InTurn IsSaid calls.sayings.now start end
 
@@ -183,7 +183,7 @@ pub record IsHistory (history : History) : Type 0 where
   pub records : List Kept
   pub changed : AreChanged history.change records
   pub start : TableValue
-  pub opened : IsTableOf history.change.terms history.chain.now history.text.now start
+  pub opened : IsOpenedTable history.change.terms history.chain.now history.text.now start
   pub end : TableValue
   pub led : IsLed history records start end
 
@@ -205,12 +205,12 @@ pub record AreEventsOfRun (replay : Replay) (events : List Event) : Type 0 where
   pub are : events ≡ run_events replay.begins key outcome
 
 -- the same, or none where there is no record
-abbrev pub AreEventsOf : Replay → List Event → Type 0
-AreEventsOf replay events =
+abbrev pub AreReplayedEvents : Replay → List Event → Type 0
+AreReplayedEvents replay events =
     ((length replay.records.now ≡ 0) × (events ≡ [])) ⊎ AreEventsOfRun replay events
 
 -- the replay of the events that are given ends like this
 pub record IsReplay (replay : Replay) (ending : Result ℕ ReplayFault) : Type 0 where
   pub events : List Event
-  pub of_replay : AreEventsOf replay events
+  pub of_replay : AreReplayedEvents replay events
   pub ends : EndsSo replay.terms None (one_file replay.text.now) events ending

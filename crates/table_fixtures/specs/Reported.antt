@@ -5,9 +5,9 @@ use Rattle.query_rules.specs.Queries.{queries}
 use Rattle.sessions.specs.declared.terms.Terms.{Terms}
 use Rattle.sessions.specs.Terms.{first_terms}
 use Rattle.sessions.specs.Sessions.{SessionValue}
-use Rattle.driver.specs.Sessions.{DriveGives}
-use Rattle.driver.specs.declared.fault.DriveFault.{DriveFault}
-use Rattle.driver.specs.declared.reports.Reports.{Reports}
+use Rattle.mini_java.specs.Sessions.{DriveGives}
+use Rattle.mini_java.specs.DriveFault.{DriveFault}
+use Rattle.mini_java.specs.Reports.{Reports}
 use Rattle.session_fixtures.specs.Telling.{IsToldSession}
 use Rattle.table_fixtures.specs.declared.driving.Counts.{Counts}
 
@@ -49,7 +49,7 @@ IsFaultOver past p workers None =
 IsFaultOver past p workers (Some fault) = DriveGives queries first_terms past p workers (Err fault)
 
 -- the same over the previous session of this number
-pub record IsFaultOf (number : Option ℕ) (p : Project) (workers : ℕ) (fault : Option DriveFault)
+pub record IsNextFault (number : Option ℕ) (p : Project) (workers : ℕ) (fault : Option DriveFault)
     : Type 0 where
   pub past : Option SessionValue
   pub numbered : IsPastOf number past

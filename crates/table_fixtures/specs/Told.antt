@@ -14,7 +14,7 @@ use Rattle.sessions.specs.Sessions.{SessionValue, next_number}
 use Rattle.sessions.specs.Spelling.{next_link}
 use Rattle.job_table.specs.Tables.{TableValue}
 use Rattle.job_table.specs.Calls.{OpenGives}
-use Rattle.answer_fixtures.specs.Telling.{IsKeyOf, IsTold, one_file}
+use Rattle.answer_fixtures.specs.Telling.{IsKeyOf, IsSpelledValue, one_file}
 use Rattle.session_fixtures.specs.declared.records.Kept.{Kept}
 use Rattle.session_fixtures.specs.Telling.{IsToldSession}
 use Rattle.table_fixtures.specs.declared.changes.Change.{Change}
@@ -32,7 +32,7 @@ pub record IsAnswerAt (records : List Kept) (at : ℕ) (answer : ReadValue) : Ty
   pub kept : Kept
   pub stands : slice_get records at ≡ Some kept
   pub key : IsKeyOf kept.key answer.key
-  pub value : IsTold kept.key.0 kept.digits.now answer.value
+  pub value : IsSpelledValue kept.key.0 kept.digits.now answer.value
 
 -- the answers of the records at these indices
 abbrev pub AreAnswersAt : List Kept → List ℕ → List ReadValue → Type 0
@@ -98,7 +98,7 @@ IsLastOf chain past = InTurn IsBehind chain None past
 -- ---- tables
 
 -- a table of these terms and of a project of this text, just opened behind the chain
-pub record IsTableOf (terms : Terms) (chain : List Change) (text : List ℕ) (t : TableValue)
+pub record IsOpenedTable (terms : Terms) (chain : List Change) (text : List ℕ) (t : TableValue)
     : Type 0 where
   pub past : Option SessionValue
   pub last : IsLastOf chain past

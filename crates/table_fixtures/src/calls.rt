@@ -3,17 +3,17 @@ ghost use Rattle.std.specs.Prelude.{◌≡◌, length, IfOk, IsTrue};
 ghost use Rattle.answer_fixtures.specs.Telling.{IsKeyOf};
 ghost use Rattle.session_fixtures.specs.declared.records.Kept.{Kept as SpecKept};
 ghost use Rattle.table_fixtures.specs.Told.{InTurn};
-ghost use Rattle.table_fixtures.specs.Called.{said_of, SaysOfAsk, SaysOfMark, SaysOfBegin, SaysOfFinish, SaysOfFail, SaysOfClose, IsLast, Says, IsSaid, AreSaid};
+ghost use Rattle.table_fixtures.specs.Called.{said_of, SaysOfAsk, SaysOfMark, SaysOfBegin, SaysOfFinish, SaysOfFail, SaysOfClose, IsLast, CallSays, IsSaid, AreSaid};
 
 use crate::again;
 use crate::changes::Change;
 use crate::runs::outcome_of;
 use crate::tables::table_of;
-use answer_fixtures::{Asked, Unfit, key_of};
+use answer_fixtures::{KeyParts, Unfit, key_of};
 use item_ids::Key;
 use job_table::{Asked as Told, CloseFault, Table, TableFault};
+use mini_java::MiniJava;
 use profiles::Profile;
-use providers::MiniJava;
 use session_fixtures::Kept;
 use sessions::Terms;
 use std::alloc::Global;
@@ -46,7 +46,7 @@ pub enum Said {
 pub struct Saying {
     pub call: Call,
     pub worker: u32,
-    pub key: Asked<'static>,
+    pub key: KeyParts<'static>,
     pub said: Said,
     pub events: usize,
 }
@@ -152,7 +152,7 @@ fn answer_to(
     key: &Key,
 ) -> Result<Said, Unfit>
     ensures { IfOk result (λ said.
-        Says saying.now.call saying.now.worker key.now said table.old table.new) }
+        CallSays saying.now.call saying.now.worker key.now said table.old table.new) }
 {
     match saying.call {
         Call::Ask => Ok(ask(table, saying.worker, key)),

@@ -2,11 +2,12 @@
 ghost use Rattle.std.specs.Prelude.{◌≡◌, ◌==◌, find, option_copied, Some, IfOk};
 ghost use Rattle.std.specs.Arc.{arc_value};
 ghost use Rattle.std.specs.List.{list_any};
-ghost use Rattle.sessions.specs.Spelling.{digest_of, next_link};
+ghost use Rattle.sessions.specs.Spelling.{digest_of};
 ghost use Rattle.sessions.specs.Sessions.{SessionValue, session_in, next_number};
 ghost use Rattle.table_fixtures.specs.Told.{mark_told, digits_told, IsChanged, AreChanged, IsNextOf, IsBehind, IsLastOf};
 
 use answer_fixtures::Unfit;
+use key_states::link_behind;
 use session_file::digest;
 use session_fixtures::{Kept, session_as};
 use sessions::{Mark, Session, Terms};
@@ -94,16 +95,6 @@ fn number_behind(past: &Option<Arc<Session>>) -> u32
             past.number() + 1
         }
         None => 0,
-    }
-}
-
-/// The link of the session behind this one, or of the first.
-pub(crate) fn link_behind(past: &Option<Arc<Session>>) -> [u8; 32]
-    ensures { result ≡ next_link (session_in past.now) }
-{
-    match past {
-        Some(past) => digest(past),
-        None => [0; 32],
     }
 }
 

@@ -4,7 +4,7 @@ ghost use Rattle.std.specs.Arc.{arc_value};
 ghost use Rattle.answer_fixtures.specs.Telling.{one_file};
 ghost use Rattle.session_fixtures.specs.Telling.{IsToldSession};
 ghost use Rattle.sessions.specs.Sessions.{session_in};
-ghost use Rattle.table_fixtures.specs.Reported.{HasCounts, IsReported, AreReported, IsPastOf, IsFaultOver, IsFaultOf};
+ghost use Rattle.table_fixtures.specs.Reported.{HasCounts, IsReported, AreReported, IsPastOf, IsFaultOver, IsNextFault};
 
 use crate::changes::share;
 use answer_fixtures::{Unfit, project_of};
@@ -136,7 +136,7 @@ fn fault_over<T: Threads + Wait + Sync>(
     project: &Project,
     unmade: &Unmade,
 ) -> Result<Option<DriveFault>, Unfit>
-    ensures { IfOk result (IsFaultOf unmade.now.past project.now unmade.now.workers) }
+    ensures { IfOk result (IsNextFault unmade.now.past project.now unmade.now.workers) }
 {
     let past = past_numbered(alloc, unmade.past)?;
     Ok(fault_behind(rt, alloc, past, project, unmade.workers))
@@ -165,7 +165,7 @@ pub fn drive_fault<T: Threads + Wait + Sync>(
     text: &str,
     unmade: &Unmade,
 ) -> Result<Option<DriveFault>, Unfit>
-    ensures { IfOk result (IsFaultOf unmade.now.past (one_file text.now) unmade.now.workers) }
+    ensures { IfOk result (IsNextFault unmade.now.past (one_file text.now) unmade.now.workers) }
 {
     let project = project_of(alloc, text)?;
     fault_over(rt, alloc, &project, unmade)

@@ -10,14 +10,15 @@ ghost use Rattle.table_fixtures.specs.Called.{SaysOfFinish, IsTakenOver, IsBegun
 
 use crate::again;
 use crate::calls::{Said, ask, begin, events, finish, mark};
-use crate::changes::{Change, digest_behind, link_behind, past_of, records_of};
+use crate::changes::{Change, digest_behind, past_of, records_of};
 use crate::replays::replay_in;
 use crate::tables::table_of;
 use answer_fixtures::{Unfit, is_spelled, key_of, project_of};
 use item_ids::Key;
 use job_table::{Asked as Told, Table};
+use key_states::link_behind;
+use mini_java::MiniJava;
 use mj_project::Project;
-use providers::MiniJava;
 use session_file::digest;
 use session_fixtures::Kept;
 use sessions::{Mark, Session, Terms};

@@ -6,7 +6,7 @@ ghost use Rattle.sessions.specs.Sessions.{session_in};
 ghost use Rattle.graph_rules.specs.Steps.{Event as SpecEvent, Finish};
 ghost use Rattle.answer_fixtures.specs.Telling.{IsKeyOf, one_file};
 ghost use Rattle.job_table.specs.Kept.{event_of};
-ghost use Rattle.table_fixtures.specs.Called.{IsLast, run_events, AreEventsOf, AreEventsOfRun, EndsSo, IsReplay};
+ghost use Rattle.table_fixtures.specs.Called.{IsLast, run_events, AreReplayedEvents, AreEventsOfRun, EndsSo, IsReplay};
 
 use crate::again::replay;
 use crate::calls::events;
@@ -14,9 +14,9 @@ use crate::runs::outcome_of;
 use answer_fixtures::{Unfit, key_of, project_of};
 use item_ids::Key;
 use job_table::{Event, ReplayFault};
+use mini_java::MiniJava;
 use mj_project::Project;
 use profiles::Profile;
-use providers::MiniJava;
 use recorder::Outcome;
 use session_fixtures::Kept;
 use sessions::{Session, Terms};
@@ -94,7 +94,7 @@ fn events_by(alloc: Global, replay: &Replay, kept: &Kept) -> Result<Events, Unfi
 }
 
 fn events_of(alloc: Global, replay: &Replay) -> Result<Events, Unfit>
-    ensures { IfOk result (λ events. AreEventsOf replay.now (map event_of events.items)) }
+    ensures { IfOk result (λ events. AreReplayedEvents replay.now (map event_of events.items)) }
 {
     match replay.records.last() {
         Some(kept) => events_by(alloc, replay, kept),
@@ -123,7 +123,7 @@ fn replay_over(
     project: &Project,
     replay: &Replay,
 ) -> Result<Result<usize, ReplayFault>, Unfit>
-    ensures { IfOk result (λ ending. (events : List SpecEvent) × AreEventsOf replay.now events
+    ensures { IfOk result (λ ending. (events : List SpecEvent) × AreReplayedEvents replay.now events
         × EndsSo replay.now.terms None project.now events ending) }
 {
     let events = events_of(alloc, replay)?;

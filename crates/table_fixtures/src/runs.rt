@@ -2,17 +2,17 @@
 ghost use Rattle.std.specs.Prelude.{◌≡◌, ◌<◌, ℕ, List, [], ◌∷◌, ◌++◌, slice_get, Contains, Some, None, MatchOption, IfOk, OnOk};
 ghost use Rattle.std.specs.Arc.{arc_value};
 ghost use Rattle.std.specs.List.{AllByRecursion};
-ghost use Rattle.recorder.specs.Backed.{rank as rank_of};
+ghost use Rattle.item_ids.specs.Inputs.{rank as rank_of};
 ghost use Rattle.recorder.specs.Runs.{IsOutcome};
 ghost use Rattle.query_rules.specs.Meaning.{mean};
 ghost use Rattle.query_rules.specs.Reads.{reads};
 ghost use Rattle.answer_fixtures.specs.Telling.{IsKeyOf};
 ghost use Rattle.table_fixtures.specs.Told.{IsAnswerAt, AreAnswersAt, IsRunOf};
 
-use answer_fixtures::{Asked, Unfit, key_of, sealed_of};
+use answer_fixtures::{KeyParts, Unfit, key_of, sealed_of};
 use item_ids::{Key, rank};
+use mini_java::MiniJava;
 use profiles::Profile;
-use providers::MiniJava;
 use recorder::{AnswerList, Outcome, Recorder, record};
 use session_fixtures::Kept;
 use std::alloc::{AllocError, AllocFailed, Global};
@@ -69,7 +69,7 @@ fn answers_of(alloc: Global, records: &[Kept], edges: &[usize]) -> Result<Answer
 }
 
 /// The key of a query that is no input.
-fn query_of(alloc: Global, asked: Asked) -> Result<Key, Unfit>
+fn query_of(alloc: Global, asked: KeyParts) -> Result<Key, Unfit>
     ensures no_input { IfOk result (λ key. 0 < rank_of key) }
     ensures told { IfOk result (IsKeyOf asked.entry) }
 {

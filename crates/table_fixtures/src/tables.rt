@@ -4,13 +4,13 @@ ghost use Rattle.sessions.specs.Sessions.{SessionValue};
 ghost use Rattle.answer_fixtures.specs.Telling.{one_file};
 ghost use Rattle.query_rules.specs.Queries.{queries};
 ghost use Rattle.job_table.specs.Calls.{OpenGives};
-ghost use Rattle.table_fixtures.specs.Told.{IsLastOf, IsTableOf};
+ghost use Rattle.table_fixtures.specs.Told.{IsLastOf, IsOpenedTable};
 
 use crate::changes::{Change, past_of};
 use answer_fixtures::{Unfit, project_of};
 use job_table::Table;
+use mini_java::MiniJava;
 use mj_project::Project;
-use providers::MiniJava;
 use sessions::Terms;
 use std::alloc::Global;
 
@@ -21,7 +21,7 @@ pub(crate) fn table_of(
     chain: &[Change],
     text: &str,
 ) -> Result<Table<MiniJava>, Unfit>
-    ensures { IfOk result (IsTableOf terms chain.now text.now) }
+    ensures { IfOk result (IsOpenedTable terms chain.now text.now) }
 {
     let project = project_of(alloc, text)?;
     table_over(alloc, terms, chain, &project)

@@ -3,21 +3,21 @@
 
 use crate::calls::{INDEX, Row, TREE, is_answered};
 use crate::records::{CHECKED, FIRST_TERMS, ONE, PLAIN, SECOND_PROFILE, TRUE};
-use answer_fixtures::Asked;
+use answer_fixtures::KeyParts;
 use item_ids::Kind;
 use job_table::TableFault;
 use profiles::Profile;
 use std::test::*;
 use table_fixtures::{Call, Said, Saying};
 
-const HEADER: Asked<'static> = Asked(Kind::Header, "M", "");
+const HEADER: KeyParts<'static> = KeyParts(Kind::Header, "M", "");
 
-const SUPERS: Asked<'static> = Asked(Kind::Supers, "M", "");
+const SUPERS: KeyParts<'static> = KeyParts(Kind::Supers, "M", "");
 
-const CLASS: Asked<'static> = Asked(Kind::CheckClass, "M", "");
+const CLASS: KeyParts<'static> = KeyParts(Kind::CheckClass, "M", "");
 
 /// That of a class which the previous session lacks.
-const NO_CLASS: Asked<'static> = Asked(Kind::CheckClass, "Z", "");
+const NO_CLASS: KeyParts<'static> = KeyParts(Kind::CheckClass, "Z", "");
 
 /// The check of a class isn't taken over from another profile. That comes behind whose key it is and whether the previous
 /// session has it, and before any edge is looked at: it may be run at once.

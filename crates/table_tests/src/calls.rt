@@ -1,7 +1,7 @@
 //! The calls of tables in turn, and what each says.
 
 use crate::records::{COMMENTED, FIRST_TERMS, ONE, PLAIN, SECOND_PROFILE, TRUE, sessions_of_one};
-use answer_fixtures::{Asked, Unfit};
+use answer_fixtures::{KeyParts, Unfit};
 use item_ids::Kind;
 use job_table::{CloseFault, ReplayFault, TableFault};
 use profiles::Profile;
@@ -10,11 +10,11 @@ use std::alloc::Global;
 use std::test::*;
 use table_fixtures::{Call, Calls, Replay, Said, Saying, are_said, replay_of};
 
-pub(crate) const TREE: Asked<'static> = Asked(Kind::Tree, "M.java", "");
+pub(crate) const TREE: KeyParts<'static> = KeyParts(Kind::Tree, "M.java", "");
 
-pub(crate) const INDEX: Asked<'static> = Asked(Kind::Index, "", "");
+pub(crate) const INDEX: KeyParts<'static> = KeyParts(Kind::Index, "", "");
 
-const ANSWER: Asked<'static> = Asked(Kind::Answer, "", "");
+const ANSWER: KeyParts<'static> = KeyParts(Kind::Answer, "", "");
 
 /// Two workers, no previous session, and one of them gives up.
 const FAILED: &[Saying] = &[

@@ -1,6 +1,6 @@
 //! The records of sessions, worked by hand from the rules: which key reads which, and the canonical bytes of each result.
 
-use answer_fixtures::Asked;
+use answer_fixtures::KeyParts;
 use item_ids::Kind;
 use profiles::Profile;
 use session_fixtures::{FIRST, Kept};
@@ -86,139 +86,139 @@ pub(crate) static SESSIONS_ACROSS: [Change; 2] = [
 /// The first session of the two classes.
 const FIRST_OF_TWO: &[Kept] = &[
     Kept {
-        key: Asked(Kind::Files, "", ""),
+        key: KeyParts(Kind::Files, "", ""),
         mark: Mark::Input,
         edges: &[],
         digits: "000000000000000001064d2e6a617661",
     },
     Kept {
-        key: Asked(Kind::Source, "M.java", ""),
+        key: KeyParts(Kind::Source, "M.java", ""),
         mark: Mark::Input,
         edges: &[],
         digits: "0101000000000000009a636c617373204d207b207075626c69632073746174696320766f6964206d61696e28537472696e675b5d206129207b2053797374656d2e6f75742e7072696e746c6e286e6577204128292e662829293b207d207d20636c6173732041207b207075626c696320696e7420662829207b2072657475726e20313b207d207075626c696320696e7420672829207b2072657475726e20323b207d207d",
     },
     Kept {
-        key: Asked(Kind::Tree, "M.java", ""),
+        key: KeyParts(Kind::Tree, "M.java", ""),
         mark: Mark::Executed,
         edges: &[1],
         digits: "020101014d030000000b07000000160e0000001101410166000000000000000000000000000000010141000000000000000000000000000000000201016600000000000000000000000000000000000000000000000000080000000700000001000000060101670000000000000000000000000000000000000000000000000008000000070000000200000006",
     },
     Kept {
-        key: Asked(Kind::Index, "", ""),
+        key: KeyParts(Kind::Index, "", ""),
         mark: Mark::Executed,
         edges: &[0, 2],
         digits: "0300000000000000020141064d2e6a617661014d064d2e6a617661",
     },
     Kept {
-        key: Asked(Kind::Header, "A", ""),
+        key: KeyParts(Kind::Header, "A", ""),
         mark: Mark::Executed,
         edges: &[3, 2],
         digits: "040100000000000000000000000000000000000201660167",
     },
     Kept {
-        key: Asked(Kind::Header, "M", ""),
+        key: KeyParts(Kind::Header, "M", ""),
         mark: Mark::Executed,
         edges: &[3, 2],
         digits: "0401010000000000000000000000000000000000",
     },
     Kept {
-        key: Asked(Kind::Method, "A", "f"),
+        key: KeyParts(Kind::Method, "A", "f"),
         mark: Mark::Executed,
         edges: &[3, 2],
         digits: "05010101660000000000000000000000000000000000000000000000000008000000070000000100000006",
     },
     Kept {
-        key: Asked(Kind::Method, "A", "g"),
+        key: KeyParts(Kind::Method, "A", "g"),
         mark: Mark::Executed,
         edges: &[3, 2],
         digits: "05010101670000000000000000000000000000000000000000000000000008000000070000000200000006",
     },
     Kept {
-        key: Asked(Kind::Method, "M", "main"),
+        key: KeyParts(Kind::Method, "M", "main"),
         mark: Mark::Executed,
         edges: &[3, 2],
         digits: "050100030000000b07000000160e00000011014101660000000000000000",
     },
     Kept {
-        key: Asked(Kind::Sig, "A", "f"),
+        key: KeyParts(Kind::Sig, "A", "f"),
         mark: Mark::Executed,
         edges: &[6],
         digits: "0601000000000000000000",
     },
     Kept {
-        key: Asked(Kind::Sig, "A", "g"),
+        key: KeyParts(Kind::Sig, "A", "g"),
         mark: Mark::Executed,
         edges: &[7],
         digits: "0601000000000000000000",
     },
     Kept {
-        key: Asked(Kind::Supers, "A", ""),
+        key: KeyParts(Kind::Supers, "A", ""),
         mark: Mark::Executed,
         edges: &[3, 4],
         digits: "07010000000000000001014100",
     },
     Kept {
-        key: Asked(Kind::Supers, "M", ""),
+        key: KeyParts(Kind::Supers, "M", ""),
         mark: Mark::Executed,
         edges: &[3, 5],
         digits: "07010000000000000001014d00",
     },
     Kept {
-        key: Asked(Kind::Members, "A", ""),
+        key: KeyParts(Kind::Members, "A", ""),
         mark: Mark::Executed,
         edges: &[11, 4, 9, 10],
         digits: "0801000000000000000000000000000000020166014100000000000000000001670141000000000000000000",
     },
     Kept {
-        key: Asked(Kind::Members, "M", ""),
+        key: KeyParts(Kind::Members, "M", ""),
         mark: Mark::Executed,
         edges: &[12, 5],
         digits: "080100000000000000000000000000000000",
     },
     Kept {
-        key: Asked(Kind::CheckClass, "A", ""),
+        key: KeyParts(Kind::CheckClass, "A", ""),
         mark: Mark::Executed,
         edges: &[4, 11],
         digits: "090000000000000000",
     },
     Kept {
-        key: Asked(Kind::CheckClass, "M", ""),
+        key: KeyParts(Kind::CheckClass, "M", ""),
         mark: Mark::Executed,
         edges: &[5, 12],
         digits: "090000000000000000",
     },
     Kept {
-        key: Asked(Kind::CheckBody, "A", "f"),
+        key: KeyParts(Kind::CheckBody, "A", "f"),
         mark: Mark::Executed,
         edges: &[6],
         digits: "0a0000000000000000",
     },
     Kept {
-        key: Asked(Kind::CheckBody, "A", "g"),
+        key: KeyParts(Kind::CheckBody, "A", "g"),
         mark: Mark::Executed,
         edges: &[7],
         digits: "0a0000000000000000",
     },
     Kept {
-        key: Asked(Kind::CheckBody, "M", "main"),
+        key: KeyParts(Kind::CheckBody, "M", "main"),
         mark: Mark::Executed,
         edges: &[8, 4, 13],
         digits: "0a0000000000000000",
     },
     Kept {
-        key: Asked(Kind::Diags, "A", ""),
+        key: KeyParts(Kind::Diags, "A", ""),
         mark: Mark::Executed,
         edges: &[4, 15, 17, 18],
         digits: "0b0000000000000000",
     },
     Kept {
-        key: Asked(Kind::Diags, "M", ""),
+        key: KeyParts(Kind::Diags, "M", ""),
         mark: Mark::Executed,
         edges: &[5, 16, 19],
         digits: "0b0000000000000000",
     },
     Kept {
-        key: Asked(Kind::Answer, "", ""),
+        key: KeyParts(Kind::Answer, "", ""),
         mark: Mark::Executed,
         edges: &[0, 2, 3, 13, 20, 14, 21],
         digits: "0c0000000000000000000000000000000201410000000000000000000000000000000201660141000000000000000000016701410000000000000000000000000000000000014d000000000000000000000000000000000000000000000000",
@@ -238,19 +238,19 @@ pub(crate) static SESSIONS_OF_TWO: [Change; 1] = [Change {
 /// The tree of the class that prints 1 with a comment behind it, and what it reads.
 pub(crate) const COMMENTED: &[Kept] = &[
     Kept {
-        key: Asked(Kind::Files, "", ""),
+        key: KeyParts(Kind::Files, "", ""),
         mark: Mark::Input,
         edges: &[],
         digits: "000000000000000001064d2e6a617661",
     },
     Kept {
-        key: Asked(Kind::Source, "M.java", ""),
+        key: KeyParts(Kind::Source, "M.java", ""),
         mark: Mark::Input,
         edges: &[],
         digits: "0101000000000000004f636c617373204d207b207075626c69632073746174696320766f6964206d61696e28537472696e675b5d206129207b2053797374656d2e6f75742e7072696e746c6e2831293b207d207d202f2f2078",
     },
     Kept {
-        key: Asked(Kind::Tree, "M.java", ""),
+        key: KeyParts(Kind::Tree, "M.java", ""),
         mark: Mark::Executed,
         edges: &[1],
         digits: "020101014d030000000b0800000011000000010000000000000000",
@@ -260,19 +260,19 @@ pub(crate) const COMMENTED: &[Kept] = &[
 /// The tree of the class where it prints true, and what it reads.
 pub(crate) const TRUE: &[Kept] = &[
     Kept {
-        key: Asked(Kind::Files, "", ""),
+        key: KeyParts(Kind::Files, "", ""),
         mark: Mark::Input,
         edges: &[],
         digits: "000000000000000001064d2e6a617661",
     },
     Kept {
-        key: Asked(Kind::Source, "M.java", ""),
+        key: KeyParts(Kind::Source, "M.java", ""),
         mark: Mark::Input,
         edges: &[],
         digits: "0101000000000000004d636c617373204d207b207075626c69632073746174696320766f6964206d61696e28537472696e675b5d206129207b2053797374656d2e6f75742e7072696e746c6e2874727565293b207d207d",
     },
     Kept {
-        key: Asked(Kind::Tree, "M.java", ""),
+        key: KeyParts(Kind::Tree, "M.java", ""),
         mark: Mark::Executed,
         edges: &[1],
         digits: "020101014d030000000b09000000110000000000000000",
@@ -282,19 +282,19 @@ pub(crate) const TRUE: &[Kept] = &[
 /// The tree of the class that prints 1, and what it reads.
 pub(crate) const PLAIN: &[Kept] = &[
     Kept {
-        key: Asked(Kind::Files, "", ""),
+        key: KeyParts(Kind::Files, "", ""),
         mark: Mark::Input,
         edges: &[],
         digits: "000000000000000001064d2e6a617661",
     },
     Kept {
-        key: Asked(Kind::Source, "M.java", ""),
+        key: KeyParts(Kind::Source, "M.java", ""),
         mark: Mark::Input,
         edges: &[],
         digits: "0101000000000000004a636c617373204d207b207075626c69632073746174696320766f6964206d61696e28537472696e675b5d206129207b2053797374656d2e6f75742e7072696e746c6e2831293b207d207d",
     },
     Kept {
-        key: Asked(Kind::Tree, "M.java", ""),
+        key: KeyParts(Kind::Tree, "M.java", ""),
         mark: Mark::Executed,
         edges: &[1],
         digits: "020101014d030000000b0800000011000000010000000000000000",
@@ -304,19 +304,19 @@ pub(crate) const PLAIN: &[Kept] = &[
 /// The check of the class that prints 1, and what it reads.
 pub(crate) const CHECKED: &[Kept] = &[
     Kept {
-        key: Asked(Kind::Header, "M", ""),
+        key: KeyParts(Kind::Header, "M", ""),
         mark: Mark::Green,
         edges: &[],
         digits: "0401010000000000000000000000000000000000",
     },
     Kept {
-        key: Asked(Kind::Supers, "M", ""),
+        key: KeyParts(Kind::Supers, "M", ""),
         mark: Mark::Green,
         edges: &[],
         digits: "07010000000000000001014d00",
     },
     Kept {
-        key: Asked(Kind::CheckClass, "M", ""),
+        key: KeyParts(Kind::CheckClass, "M", ""),
         mark: Mark::Executed,
         edges: &[0, 1],
         digits: "090000000000000000",
@@ -325,7 +325,7 @@ pub(crate) const CHECKED: &[Kept] = &[
 
 /// The header of a class that isn't there, which reads the index.
 pub(crate) const MISSING: &[Kept] = &[Kept {
-    key: Asked(Kind::Header, "Z", ""),
+    key: KeyParts(Kind::Header, "Z", ""),
     mark: Mark::Executed,
     edges: &[3],
     digits: "0400",

@@ -3,18 +3,19 @@ use Rattle.std.proofs.Common.{◌≡◌, ℕ, ◌+◌, ◌<◌, [], ◌∷◌, O
 use Rattle.std.specs.Prelude.{option_and_then}
 use Rattle.item_ids.specs.declared.key.Key.{Key}
 use Rattle.item_ids.specs.declared.key.Key.TheVariants as keys
+use Rattle.item_ids.specs.Inputs.{rank}
 use Rattle.mj_tree.specs.Trees.{Name, File}
 use Rattle.mj_members.specs.Declarations.{ClassDecl}
 use Rattle.mj_project.specs.Projects.{IsProject}
+use Rattle.result_bytes.specs.Parts.{index_in}
 use Rattle.result_bytes.specs.declared.value.Value.{Value}
 use Rattle.profiles.specs.declared.profile.Profile.{Profile}
 use Rattle.recorder.specs.Projects.{Project}
-use Rattle.recorder.specs.Backed.{rank}
 use Rattle.recorder.specs.Programs.{Prog, Ret, runs, asks, Fits}
 use Rattle.query_rules.specs.Items.{tree_at, class_at, file_of_class}
 use Rattle.query_rules.specs.Meaning.{mean}
 use Rattle.query_rules.specs.Reads.{tree_of_class, first_keys}
-use Rattle.text_queries.specs.Facts.{file_in}
+use Rattle.text_queries.specs.Index.{first_file}
 use Rattle.text_queries.specs.ClassTrees.{file_step, class_tree_step, class_named}
 use Rattle.text_queries.proofs.Files.{moved, stands_in, class_tree}
 use Rattle.text_queries.proofs.Indexes.{index_tells}
@@ -53,7 +54,7 @@ module _ (q : Key) (high : 2 < rank q) (k : Option File → Prog) (fits : (tree 
 
   pub tree_fits : (c : Name) → Fits q (class_tree_step c k)
   unfolding Fits
-  tree_fits c = (high, λ v. file_fits (file_in v c))
+  tree_fits c = (high, λ v. file_fits (first_file (index_in v) c))
 
 -- ---- what the tree says about the class
 

@@ -1,5 +1,5 @@
 -- Files of a project by their names, and the files that declare classes.
-use Rattle.std.proofs.Common.{◌≡◌, ℕ, suc, ◌+◌, ◌<◌, Bool, true, false, cond, List, [], ◌∷◌, map, slice_get, find, Option, Some, None, option_map, refl, sym, ap, ◌∙◌, arith, inl, inr}
+use Rattle.std.proofs.Common.{◌≡◌, ℕ, suc, ◌+◌, ◌<◌, Bool, List, [], ◌∷◌, map, slice_get, find, Option, Some, None, option_map, refl, sym, ap, ◌∙◌, arith, inl, inr}
 use Rattle.std.specs.Prelude.{option_and_then}
 use Rattle.std.specs.Option.{option_or}
 use Rattle.std.specs.Str.{bytes_eq}
@@ -8,23 +8,15 @@ use Rattle.std.proofs.lemmas.List.Folds.{find-append}
 use Rattle.std.proofs.lemmas.Option.{none-some, same_Some}
 use Rattle.std.proofs.lemmas.Slice.Eq.{bytes_eq-Decides}
 use Rattle.mj_tree.specs.Trees.{Name, Main, Class, File}
+use Rattle.mj_tree.proofs.Positions.{find-map}
 use Rattle.mj_members.specs.Declarations.{ClassDecl, main_decl, class_decl}
 use Rattle.mj_classes.specs.Declarations.{number_classes, main_first, classes_of, declared_from, decl}
 use Rattle.mj_project.specs.Projects.{SourceFile, names_of, IsProject}
-use Rattle.mj_project.proofs.Listed.{place_of, contains_before, map_at}
+use Rattle.mj_project.proofs.Listed.{place_of, contains_before, map_at, from_map}
 use Rattle.mj_rules.specs.Sentences.{file_of, trees_of, classes_in}
 use Rattle.mj_rules.proofs.RowLemmas.{found_stands, finds_one}
 use Rattle.recorder.specs.Projects.{Project}
 use Rattle.query_rules.specs.Items.{tree_at, name_of, file_of_class}
-
--- what is found among views is the view of what is found
-pub find_seen : {X Y : Type 0} (view : X → Y) (test : Y → Bool) (xs : List X) → find test (map view xs) ≡ option_map view (find (λ x. test (view x)) xs)
-find_seen view test [] = refl
-find_seen {X} view test (x ∷ xs) = by (test (view x)) (find_seen view test xs)
-  where
-    by : (b : Bool) → find test (map view xs) ≡ option_map view (find (λ y. test (view y)) xs) → cond b (Some (view x)) (find test (map view xs)) ≡ option_map view (cond b (Some x) (find (λ y. test (view y)) xs))
-    by true e = refl
-    by false e = e
 
 -- ---- files by their names
 
@@ -87,7 +79,7 @@ classes_moved i f = main_first_moved i f.main f.classes
 
 decl_moved : (i : ℕ) (f : File) (c : Name) → decl (classes_of i f) c ≡ option_map (moved i) (decl (classes_of 0 f) c)
 unfolding decl
-decl_moved i f c = ap (find (λ (k : ClassDecl). bytes_eq k.name c)) (classes_moved i f) ∙ find_seen (moved i) (λ (k : ClassDecl). bytes_eq k.name c) (classes_of 0 f)
+decl_moved i f c = ap (find (λ (k : ClassDecl). bytes_eq k.name c)) (classes_moved i f) ∙ find-map (moved i) (λ (k : ClassDecl). bytes_eq k.name c) (classes_of 0 f)
 
 -- A class stands in a file, which is a sentence: there it is the first of its name.
 pub record StandsIn (fs : List SourceFile) (first : ℕ) (c : Name) (k : ClassDecl) : Type 0 where
@@ -100,10 +92,6 @@ pub record StandsIn (fs : List SourceFile) (first : ℕ) (c : Name) (k : ClassDe
   pub alone : ClassDecl
   pub found : decl (classes_of 0 tree) c ≡ Some alone
   pub is : k ≡ moved (first + at) alone
-
-from_map : {A B : Type 0} (f : A → B) (o : Option A) (y : B) → option_map f o ≡ Some y → (x : A) × (o ≡ Some x) × (f x ≡ y)
-from_map f None y e = absurd (none-some y e)
-from_map f (Some x) y e = (x, refl, same_Some (f x) y e)
 
 later : (f : SourceFile) (fs : List SourceFile) (first : ℕ) (c : Name) (k : ClassDecl) → StandsIn fs (suc first) c k → StandsIn (f ∷ fs) first c k
 later f fs first c k s = record {

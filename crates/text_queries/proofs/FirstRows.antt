@@ -1,11 +1,9 @@
 -- The first row of each class.
-use Rattle.std.proofs.Common.{◌≡◌, ℕ, suc, Bool, true, false, cond, List, [], ◌∷◌, ◌++◌, length, map, find, Option, Some, None, option_map, refl, sym, ap, ◌∙◌, subst, arith, append_assoc}
-use Rattle.std.specs.Prelude.{is_some}
+use Rattle.std.proofs.Common.{◌≡◌, ℕ, suc, Bool, true, false, cond, List, [], ◌∷◌, ◌++◌, map, find, Option, Some, None, option_map, refl, sym, ap, ◌∙◌, subst, append_assoc}
 use Rattle.std.specs.Option.{option_or}
 use Rattle.std.specs.Map.{lookup, keys_of, values_of}
 use Rattle.std.specs.BTreeMap.{is_at}
-use Rattle.std.specs.Ordering.{nat_cmp, is_eq}
-use Rattle.std.specs.Cmp.Lexicographic.{slice_cmp}
+use Rattle.std.specs.Ordering.{is_eq}
 use Rattle.std.specs.Str.{bytes_eq}
 use Rattle.std.proofs.lemmas.Map.Lookups.{exact_bytes}
 use Rattle.std.proofs.lemmas.Map.Views.{tells_apart}
@@ -15,7 +13,6 @@ use Rattle.tree_bytes.specs.declared.stored.StoredFile.{StoredFile}
 use Rattle.tree_bytes.specs.Stored.{stored_class, stored_file}
 use Rattle.mj_answer.specs.Order.{NameBefore, IsAscendingBy, IsAscendingByName}
 use Rattle.mj_classes.specs.Declarations.{number_classes, main_first}
-use Rattle.mj_tree.proofs.Positions.{names_tie, same_name}
 use Rattle.mj_members.proofs.Tables.{by_bytes, under}
 use Rattle.mj_rules.specs.FaultLists.{class_names}
 use Rattle.mj_rules.proofs.TableLaws.{found_name}
@@ -54,25 +51,6 @@ module _ (file : Name) (root : StoredFile) (tree : File) (seen : stored_file roo
 
 -- ---- the files by their classes, one row after the other
 
--- a class that has no file yet gets one
-pub file_kept : (found after : Name → Option Name) (c file : Name) → is_some (found c) ≡ false
-    → ((q : Name) → after q ≡ cond (is_eq (slice_cmp nat_cmp c q)) (Some file) (found q)) → (q : Name) → after q ≡ option_or (found q) (cond (bytes_eq c q) (Some file) None)
-file_kept found after c file new puts q = puts q ∙ (ap (λ b. cond b (Some file) (found q)) (names_tie c q) ∙ by_test (bytes_eq c q) refl)
-  where
-    none_of : (o : Option Name) → is_some o ≡ false → o ≡ None
-    none_of None e = refl
-    none_of (Some n) e = absurd cc
-
-    by_file : (o : Option Name) → o ≡ option_or o None
-    by_file None = refl
-    by_file (Some n) = refl
-
-    by_test : (b : Bool) → bytes_eq c q ≡ b → cond b (Some file) (found q) ≡ option_or (found q) (cond b (Some file) None)
-    by_test true t =
-        let nothing : found q ≡ None = ap found (sym (same_name c q t)) ∙ none_of (found c) new in
-        sym (ap (λ o. option_or o (Some file)) nothing)
-    by_test false t = by_file (found q)
-
 -- what one row more says, and the rest
 pub row_more : (old new : Option Name) (row : IndexRow) (rest : List IndexRow) (c : Name) → new ≡ option_or old (cond (bytes_eq row.class c) (Some row.file) None)
     → option_or new (first_file rest c) ≡ option_or old (first_file (row ∷ rest) c)
@@ -82,14 +60,6 @@ row_more old new row rest c e = ap (λ o. option_or o (first_file rest c)) e ∙
     by_file (Some n) b = refl
     by_file None true = refl
     by_file None false = refl
-
-pub no_row_more : (o : Option Name) → option_or o None ≡ o
-no_row_more None = refl
-no_row_more (Some n) = refl
-
-pub nothing_left : {X : Type 0} (xs : List X) → length xs ≡ 0 → xs ≡ []
-nothing_left [] h = refl
-nothing_left (x ∷ xs) h = absurd (omega arith)
 
 -- ---- the entries of the map, as rows
 

@@ -1,6 +1,6 @@
 -- The first of each name in a list, in the order of the names.
 use Rattle.std.proofs.Common.{◌≡◌, Bool, true, false, cond, List, [], ◌∷◌, map, find, filter_map, Option, Some, None, Contains, refl, sym, ap, ◌∙◌, subst, inl, inr, true≢false}
-use Rattle.std.specs.Prelude.{T, ◌&&◌}
+use Rattle.std.specs.Prelude.{T}
 use Rattle.std.specs.List.{AllByRecursion, cons_option}
 use Rattle.std.specs.List.Sorted.{IsStrictlySortedBy}
 use Rattle.std.specs.Map.{keys_of, values_of}
@@ -10,23 +10,20 @@ use Rattle.std.specs.FinMap.Entries as entries
 use Rattle.std.specs.Str.{bytes_eq}
 use Rattle.std.proofs.lemmas.Option.{none-some}
 use Rattle.std.proofs.lemmas.Slice.Eq.{bytes_eq-Decides}
+use Rattle.std.proofs.lemmas.Map.Text.{is_eq-slice_cmp}
 use Rattle.mj_tree.specs.Trees.{Name}
 use Rattle.mj_answer.specs.Order.{NameBefore, IsAscendingBy, IsAscendingByName}
-use Rattle.mj_answer.proofs.Alike.{Contains-cases}
-use Rattle.mj_tree.proofs.Positions.{names_tie, bytes_eq_back}
+use Rattle.mj_answer.proofs.Alike.{Contains-cases, nowhere}
+use Rattle.mj_tree.proofs.Positions.{bytes_eq_back}
 use Rattle.mj_members.proofs.Tables.{by_bytes, under, firsts_are}
+use Rattle.mj_members.proofs.Rows.{both_hold}
 use Rattle.mj_project.proofs.Listed.{place_of, contains_at, map_at}
 use Rattle.mj_rules.specs.Answering.{set_of, name_order}
-use Rattle.mj_rules.proofs.Numbered.{nowhere}
 use Rattle.mj_rules.proofs.RowLemmas.{found_stands}
 use Rattle.mj_rules.proofs.Sets.{names_compare, set_ascends, to_set}
 use Rattle.mj_rules.proofs.TableLaws.{found_name}
 
 -- ---- entries that ascend
-
-both_hold : (a b : Bool) → T a → T b → T (a && b)
-both_hold true b p q = q
-both_hold false b p q = p
 
 below_entries : {A : Type 0} (n : Name) (es : List (Name × A)) → AllByRecursion (λ m. NameBefore n m) (keys_of es) → T (entries.below_all by_bytes n es)
 below_entries n [] h = tt
@@ -121,7 +118,7 @@ module _ {X : Type 0} (name : X → Name) (xs : List X) where
   named_under : (n : Name) (ys : List X) → under n (map entry ys) ≡ find (λ x. bytes_eq (name x) n) ys
   named_under n [] = refl
   named_under n (y ∷ ys) =
-      ap (λ b. cond b (Some y) (under n (map entry ys))) (names_tie n (name y) ∙ bytes_eq_back n (name y))
+      ap (λ b. cond b (Some y) (under n (map entry ys))) (is_eq-slice_cmp n (name y) ∙ bytes_eq_back n (name y))
       ∙ ap (cond (bytes_eq (name y) n) (Some y)) (named_under n ys)
 
   -- entries that ascend and say under each name what is found first have these values

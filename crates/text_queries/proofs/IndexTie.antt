@@ -7,12 +7,14 @@ use Rattle.std.proofs.lemmas.List.{map-append}
 use Rattle.item_ids.specs.declared.key.Key.{Key}
 use Rattle.item_ids.specs.declared.key.Key.TheVariants as keys
 use Rattle.mj_tree.specs.Trees.{Name, File}
+use Rattle.mj_tree.proofs.Positions.{find-map}
 use Rattle.mj_members.specs.Declarations.{ClassDecl}
 use Rattle.mj_classes.specs.Declarations.{classes_of, declared_from, decl}
 use Rattle.mj_project.specs.Projects.{SourceFile, names_of, IsProject}
 use Rattle.mj_rules.specs.Sentences.{file_of, trees_of, classes_in}
 use Rattle.mj_rules.specs.FaultLists.{class_names}
 use Rattle.mj_rules.specs.Answering.{set_of, name_order, first_classes}
+use Rattle.result_bytes.specs.Parts.{tree_in}
 use Rattle.result_bytes.specs.declared.files.IndexRow.{IndexRow}
 use Rattle.result_bytes.specs.declared.value.Value.{Value}
 use Rattle.result_bytes.specs.declared.value.Value.TheVariants as values
@@ -24,10 +26,9 @@ use Rattle.recorder.specs.Backed.{is_seen}
 use Rattle.query_rules.specs.Items.{tree_at, name_of, index_row}
 use Rattle.query_rules.specs.Meaning.{mean}
 use Rattle.query_rules.specs.Reads.{asked_keys, first_keys, reads}
-use Rattle.text_queries.specs.Facts.{tree_in}
 use Rattle.text_queries.specs.Index.{row_in, file_rows, rows_step, first_rows, index_steps}
 use Rattle.text_queries.specs.Laws.{IndexTies}
-use Rattle.text_queries.proofs.Files.{find_seen, tree_by_name, moved, classes_moved}
+use Rattle.text_queries.proofs.Files.{tree_by_name, moved, classes_moved}
 
 -- ---- the rows of all files
 
@@ -76,7 +77,7 @@ module _ (p : Project) where
   unfolding decl
   rows_named ks [] = refl
   rows_named ks (n ∷ ns) =
-      ap₂ cons_option (find_seen (index_row p) (λ (row : IndexRow). bytes_eq row.class n) ks) (rows_named ks ns)
+      ap₂ cons_option (find-map (index_row p) (λ (row : IndexRow). bytes_eq row.class n) ks) (rows_named ks ns)
       ∙ by_first (decl ks n)
     where
       by_first : (o : Option ClassDecl) → cons_option (option_map (index_row p) o) (map (index_row p) (filter_map (decl ks) ns)) ≡ map (index_row p) (cons_option o (filter_map (decl ks) ns))

@@ -6,11 +6,11 @@ use Rattle.mj_tree.specs.Trees.{Name, File}
 use Rattle.mj_classes.specs.Declarations.{classes_of}
 use Rattle.mj_rules.specs.FaultLists.{class_names}
 use Rattle.mj_rules.specs.Answering.{set_of, name_order}
+use Rattle.result_bytes.specs.Parts.{files_in, tree_in}
 use Rattle.result_bytes.specs.declared.files.IndexRow.{IndexRow}
 use Rattle.result_bytes.specs.declared.value.Value.{Value}
 use Rattle.result_bytes.specs.declared.value.Value.TheVariants as values
 use Rattle.recorder.specs.Programs.{Prog, Ask, each}
-use Rattle.text_queries.specs.Facts.{names_in, tree_in}
 
 abbrev pub row_in : Name → Name → IndexRow
 row_in file class = record { class = class; file = file }
@@ -37,5 +37,5 @@ first_rows rows =
 -- Files, then Tree of each file
 abbrev pub index_steps : (Value → Prog) → Prog
 index_steps k =
-    Ask keys.Files (λ v. each rows_step (names_in v) []
+    Ask keys.Files (λ v. each rows_step (files_in v) []
     (λ rows. k (values.Index (first_rows rows))))

@@ -1,4 +1,3 @@
-pub mod Facts
 pub mod Tree
 pub mod Index
 pub mod Sig

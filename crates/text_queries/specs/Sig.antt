@@ -2,11 +2,11 @@
 use Rattle.std.specs.Prelude.{option_and_then}
 use Rattle.item_ids.specs.declared.key.Key.TheVariants as keys
 use Rattle.mj_tree.specs.Trees.{Name}
+use Rattle.result_bytes.specs.Parts.{body_in}
 use Rattle.result_bytes.specs.declared.value.Value.{Value}
 use Rattle.result_bytes.specs.declared.value.Value.TheVariants as values
 use Rattle.recorder.specs.Programs.{Prog, Ask}
 use Rattle.query_rules.specs.Items.{signature_of}
-use Rattle.text_queries.specs.Facts.{body_in}
 
 -- Method(c, m), then the types of that method
 abbrev pub sig_steps : Name → Name → (Value → Prog) → Prog

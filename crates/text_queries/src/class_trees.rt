@@ -1,26 +1,39 @@
 //! The tree of the file that declares a class.
 ghost use Rattle.std.specs.Prelude.{◌≡◌, IfOk, IfErr, option_copied, option_map, option_and_then};
 ghost use Rattle.std.specs.Arc.{arc_value};
+ghost use Rattle.mj_answer.specs.Order.{IsAscendingByName};
 ghost use Rattle.recorder.specs.Programs.{Goes, GivesUp};
-ghost use Rattle.text_queries.specs.Facts.{tree_in as tree_told};
+ghost use Rattle.text_queries.specs.Index.{first_file};
+ghost use Rattle.result_bytes.specs.Parts.{tree_in};
 ghost use Rattle.text_queries.specs.ClassTrees.{file_step, class_tree_step};
 
-use crate::facts::{file_in, tree_in};
-use body_questions::read;
 use fingerprint::Sealed;
 use item_ids::Key;
+use mj_answer::find_by_name;
 use mj_lexer::Name;
-use recorder::{Reader, Recorder, RunFault};
+use recorder::{Reader, Recorder, RunFault, read};
+use result_bytes::IndexRow;
 use std::alloc::Global;
 use std::sync::Arc;
 use tree_bytes::Tree;
 
 /// The tree in an answer, if there is one.
 pub fn tree_of(answer: &Option<Arc<Sealed>>) -> Option<&Tree>
-    ensures { option_copied result ≡ option_and_then tree_told (option_map arc_value answer.now) }
+    ensures { option_copied result ≡ option_and_then tree_in (option_map arc_value answer.now) }
 {
     match answer {
-        Some(sealed) => tree_in(sealed.value()),
+        Some(sealed) => sealed.value().tree(),
+        None => None,
+    }
+}
+
+/// The file of a class, by the rows of an index.
+fn file_of<'r>(rows: &'r [IndexRow], class: &Name) -> Option<&'r Name>
+    requires { IsAscendingByName (λ row. row.class) rows.now }
+    ensures { option_copied result ≡ first_file rows.now class.now }
+{
+    match find_by_name(rows, class) {
+        Some(row) => Some(&row.file),
         None => None,
     }
 }
@@ -32,7 +45,7 @@ fn ask_file<D: Reader>(
     file: Option<&Name>,
 ) -> Result<Option<Arc<Sealed>>, RunFault>
     ensures ok { IfOk result (λ a. Goes (file_step (option_copied file.entry)) recorder.old
-        (option_and_then tree_told (option_map arc_value a)) recorder.new) }
+        (option_and_then tree_in (option_map arc_value a)) recorder.new) }
     ensures err { IfErr result (λ e. GivesUp (file_step (option_copied file.entry)) recorder.old
         e recorder.new) }
     ensures follows { D.follows recorder.old.inner recorder.new.inner }
@@ -53,11 +66,11 @@ pub fn ask_class_tree<D: Reader>(
     class: &Name,
 ) -> Result<Option<Arc<Sealed>>, RunFault>
     ensures ok { IfOk result (λ a. Goes (class_tree_step class.now) recorder.old
-        (option_and_then tree_told (option_map arc_value a)) recorder.new) }
+        (option_and_then tree_in (option_map arc_value a)) recorder.new) }
     ensures err { IfErr result (λ e. GivesUp (class_tree_step class.now) recorder.old e
         recorder.new) }
     ensures follows { D.follows recorder.old.inner recorder.new.inner }
 {
     let index = read(recorder, Key::Index)?;
-    ask_file(alloc, recorder, file_in(index.value(), class))
+    ask_file(alloc, recorder, file_of(index.value().index(), class))
 }

@@ -9,7 +9,7 @@ ghost use Rattle.text_queries.specs.Header.{header_steps};
 
 use crate::class_trees::{ask_class_tree, tree_of};
 use mj_lexer::Name;
-use mj_tree::Field;
+use mj_tree::{Field, copy_fields};
 use recorder::{Reader, Recorder, RunFault};
 use result_bytes::{Header, Value};
 use std::alloc::{AllocError, Global};
@@ -23,17 +23,6 @@ fn copy_superclass(alloc: Global, superclass: Option<&Name>) -> Result<Option<Na
         Some(name) => Ok(Some(name.copy(alloc)?)),
         None => Ok(None),
     }
-}
-
-/// Equal fields in the same order.
-fn copy_fields(alloc: Global, fields: &[Field]) -> Result<Vec<Field>, AllocError>
-    ensures { IfOk result (λ copies. copies.items ≡ fields.now) }
-{
-    let mut copies = Vec::new(alloc);
-    for field in fields {
-        copies.push(field.copy(alloc)?)?;
-    }
-    Ok(copies)
 }
 
 /// The names of methods.

@@ -8,11 +8,9 @@ ghost use Rattle.std.specs.Ordering.{nat_cmp};
 ghost use Rattle.recorder.specs.Programs.{Goes, GivesUp, each};
 ghost use Rattle.text_queries.specs.Index.{row_in, file_rows, rows_step, first_file, first_rows, index_steps};
 
-use crate::facts::{names_in, tree_in};
-use body_questions::read;
 use item_ids::Key;
 use mj_lexer::Name;
-use recorder::{Reader, Recorder, RunFault};
+use recorder::{Reader, Recorder, RunFault, read};
 use result_bytes::{Index, IndexRow, Value};
 use std::alloc::{AllocError, Global};
 use std::collections::BTreeMap;
@@ -100,7 +98,7 @@ fn ask_rows<D: Reader>(
     ensures follows { D.follows recorder.old.inner recorder.new.inner }
 {
     let answer = read(recorder, Key::Tree(file.copy(alloc)?))?;
-    add_file(alloc, rows, file, tree_in(answer.value()))?;
+    add_file(alloc, rows, file, answer.value().tree())?;
     Ok(())
 }
 
@@ -181,7 +179,7 @@ pub fn run_index<D: Reader>(alloc: Global, recorder: &mut Recorder<D>) -> Result
     ensures follows { D.follows recorder.old.inner recorder.new.inner }
 {
     let answer = read(recorder, Key::Files)?;
-    let rows = ask_all_rows(alloc, recorder, names_in(answer.value()))?;
+    let rows = ask_all_rows(alloc, recorder, answer.value().files())?;
     let index = index_of(alloc, rows)?;
     Ok(Value::Index(index))
 }

@@ -2,7 +2,6 @@
 #![tactic(auto)]
 
 mod class_trees;
-mod facts;
 mod header;
 mod index;
 mod laws;

@@ -4,15 +4,13 @@ ghost use Rattle.recorder.specs.Programs.{Goes, GivesUp};
 ghost use Rattle.query_rules.specs.Items.{signature_of};
 ghost use Rattle.text_queries.specs.Sig.{sig_steps};
 
-use crate::facts::body_in;
-use body_questions::read;
 use item_ids::Key;
 use mj_lexer::Name;
 use mj_tree::{Ty, Variable};
-use recorder::{Reader, Recorder, RunFault};
+use recorder::{Reader, Recorder, RunFault, read};
 use result_bytes::{Signature, Value};
 use std::alloc::{AllocError, Global};
-use tree_bytes::{Body, MethodTypes};
+use tree_bytes::{Body, MethodHead};
 
 /// The types of variables.
 fn types_of(alloc: Global, variables: &[Variable]) -> Result<Vec<Ty>, AllocError>
@@ -30,7 +28,7 @@ fn signature_of(alloc: Global, body: &Body) -> Result<Option<Signature>, AllocEr
     ensures { IfOk result (λ signature. signature ≡ signature_of body.now) }
 {
     match body.types(alloc)? {
-        Some(MethodTypes { returns, formals }) => {
+        Some(MethodHead { returns, formals }) => {
             let formals = types_of(alloc, &formals)?;
             Ok(Some(Signature::new(formals, returns)))
         }
@@ -63,7 +61,7 @@ pub fn run_sig<D: Reader>(
     ensures follows { D.follows recorder.old.inner recorder.new.inner }
 {
     let key = Key::Method(class.copy(alloc)?, method.copy(alloc)?);
-    let body = read(recorder, key)?;
-    let signature = signature_for(alloc, body_in(body.value()))?;
+    let answer = read(recorder, key)?;
+    let signature = signature_for(alloc, answer.value().body())?;
     Ok(Value::Sig(signature))
 }

@@ -4,12 +4,10 @@ ghost use Rattle.mj_rules.specs.Sentences.{file_of};
 ghost use Rattle.recorder.specs.Programs.{Goes, GivesUp};
 ghost use Rattle.text_queries.specs.Tree.{tree_steps};
 
-use crate::facts::bytes_in;
-use body_questions::read;
 use item_ids::Key;
 use mj_lexer::Name;
 use mj_rules::read_file;
-use recorder::{Reader, Recorder, RunFault};
+use recorder::{Reader, Recorder, RunFault, read};
 use result_bytes::{Text, Value};
 use std::alloc::{AllocError, Global};
 use tree_bytes::Tree;
@@ -45,7 +43,7 @@ pub fn run_tree<D: Reader>(
     ensures err { IfErr result (λ e. GivesUp (tree_steps file.now) recorder.old e recorder.new) }
     ensures follows { D.follows recorder.old.inner recorder.new.inner }
 {
-    let source = read(recorder, Key::Source(file.copy(alloc)?))?;
-    let tree = tree_for(alloc, bytes_in(source.value()))?;
+    let answer = read(recorder, Key::Source(file.copy(alloc)?))?;
+    let tree = tree_for(alloc, answer.value().source())?;
     Ok(Value::Tree(tree))
 }

@@ -2,7 +2,7 @@
 use Rattle.std.specs.Prelude.{List}
 use Rattle.mj_tree.specs.declared.tree.Ty.{Ty}
 use Rattle.mj_tree.specs.declared.tree.Variable.{Variable}
-use Rattle.tree_bytes.specs.declared.body.MethodTypes.{MethodTypes}
+use Rattle.tree_bytes.specs.declared.body.MethodHead.{MethodHead}
 use Rattle.mj_tree.specs.Views.{stmt_view, method_view}
 use Rattle.tree_bytes.specs.declared.body.MainOrMethod.{MainOrMethod}
 use Rattle.tree_bytes.specs.declared.body.MainOrMethod.TheVariants.{Main, Method}
@@ -12,5 +12,5 @@ abbrev pub body_view : MainOrMethod → BodyValue
 body_view (Main statement) = OfMain (stmt_view statement)
 body_view (Method tree) = OfMethod (method_view tree)
 
-abbrev pub types_view : MethodTypes → Ty × List Variable
+abbrev pub types_view : MethodHead → Ty × List Variable
 types_view types = (types.returns, types.formals.items)

@@ -36,7 +36,7 @@ impl Drop for MainOrMethod {
 
 /// The types that a method declares.
 #[derive(Drop)]
-pub struct MethodTypes {
+pub struct MethodHead {
     pub returns: Ty,
     pub formals: Vec<Variable>,
 }
@@ -157,7 +157,7 @@ impl Body {
     }
 
     /// The types that a method declares, for which its body isn't opened. The statement of `main` declares none.
-    pub fn types(&self, alloc: Global) -> Result<Option<MethodTypes>, AllocError>
+    pub fn types(&self, alloc: Global) -> Result<Option<MethodHead>, AllocError>
         ensures { IfOk result (λ types. option_map types_view types ≡ types_of self.now) }
     {
         let bytes = self.bytes();

@@ -11,7 +11,7 @@ mod stored;
 mod tree;
 mod writing;
 
-pub use body::{Body, MainOrMethod, MethodTypes};
+pub use body::{Body, MainOrMethod, MethodHead};
 pub use formats::{BodyFormat, TreeFormat};
 pub use stored::{StoredClass, StoredFile, StoredMain, StoredMethod};
 pub use tree::Tree;

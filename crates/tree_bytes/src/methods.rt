@@ -5,20 +5,20 @@ ghost use Rattle.tree_spelling.specs.Reading.{tagged_method_at, types_at};
 ghost use Rattle.tree_spelling.specs.Skipping.{Skips};
 ghost use Rattle.tree_bytes.specs.BodyViews.{types_view};
 
-use crate::body::{Body, MethodTypes};
+use crate::body::{Body, MethodHead};
 use crate::stored::StoredMethod;
 use byte_readers::{Breach, ReadError, not_canonical, read_list, read_name_text};
 use std::alloc::Global;
 use tree_spelling::{VariableFormat, read_ty, skip_method};
 
 /// Reads the types that a method declares, behind its name.
-pub fn read_types(alloc: Global, bytes: &[u8]) -> Result<(MethodTypes, &[u8]), ReadError>
+pub fn read_types(alloc: Global, bytes: &[u8]) -> Result<(MethodHead, &[u8]), ReadError>
     ensures { Decodes types_view result (types_at bytes.now) }
 {
     let (_, rest) = read_name_text(bytes)?;
     let (returns, rest) = read_ty(alloc, rest)?;
     let (formals, rest) = read_list::<VariableFormat>(alloc, rest)?;
-    Ok((MethodTypes { returns, formals }, rest))
+    Ok((MethodHead { returns, formals }, rest))
 }
 
 /// Reads a method behind its tag, as its name and its bytes.

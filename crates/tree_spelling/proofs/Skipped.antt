@@ -14,7 +14,7 @@ use Rattle.tree_spelling.specs.declared.tag.ExpTag.TheVariants as tags
 use Rattle.tree_spelling.specs.declared.tag.StmtTag.{StmtTag}
 use Rattle.tree_spelling.specs.declared.tag.StmtTag.TheVariants as statements
 use Rattle.tree_spelling.specs.Tags.{exp_tag_of, stmt_tag_of}
-use Rattle.tree_spelling.specs.Reading.{ty_at, variable_of, variable_at, literal_at, two_of, one_of, method_of, exps_at, stmts_at, exp_body_at, exp_behind_tag, exp_at, stmt_body_at, stmt_behind_tag, stmt_at, top_stmt_at, top_stmts_at, top_exp_at, method_at}
+use Rattle.tree_spelling.specs.Reading.{ty_at, made_variable, variable_at, literal_at, two_of, one_of, made_method, exps_at, stmts_at, exp_body_at, exp_behind_tag, exp_at, stmt_body_at, stmt_behind_tag, stmt_at, top_stmt_at, top_stmts_at, top_exp_at, method_at}
 use Rattle.tree_spelling.specs.Skipping.{behind, Skips, Skipper, Leaves, items_left, list_left, variable_left, exp_body_left, exp_left_behind_tag, exp_left, stmt_body_left, stmt_left_behind_tag, stmt_left, method_left}
 
 -- ---- a phrase by its tag
@@ -100,7 +100,7 @@ passes_list : {A : Type 0} {part : Decoder A} {skipper : Skipper} → Passes par
 passes_list {A} {part} {skipper} h = record { passes = list_passes part skipper h }
 
 passes_variable : Passes variable_at variable_left
-passes_variable = passes_made variable_of (passes_pair (passes_itself name_at) (passes_pair (passes_itself ty_at) (passes_itself four_at)))
+passes_variable = passes_made made_variable (passes_pair (passes_itself name_at) (passes_pair (passes_itself ty_at) (passes_itself four_at)))
 
 -- ---- expressions
 
@@ -185,7 +185,7 @@ passes_top_exp = record { passes = top_exp_passes }
 pub method_passes : (bytes : List ℕ) → behind (method_at bytes) ≡ method_left bytes
 unfolding method_at method_left
 method_passes bytes =
-    (passes_made method_of (passes_pair (passes_itself name_at)
+    (passes_made made_method (passes_pair (passes_itself name_at)
     (passes_pair (passes_itself ty_at) (passes_pair (passes_list passes_variable)
     (passes_pair (passes_list passes_variable)
     (passes_pair passes_top_stmts (passes_pair passes_top_exp (passes_itself four_at)))))))).passes bytes

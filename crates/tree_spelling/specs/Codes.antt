@@ -11,6 +11,7 @@ use Rattle.mj_tree.specs.contracts.tree.Variable as variable_contracts
 use Rattle.mj_tree.specs.Trees.{Expression, Expressions, none, more, Statement, Statements, done, next, Method, Main, File}
 use Rattle.mj_tree.specs.Trees as trees
 use Rattle.tree_spelling.specs.Tags.{operator_byte, boolean_byte}
+use Rattle.tree_spelling.specs.Reading.{made_method, made_main, made_class, made_file}
 
 abbrev code_n : List ℕ → Gv
 code_n [] = gnil
@@ -255,31 +256,20 @@ method_code =
     (coded× (coded_list variable_contracts.the_row.coded)
     (coded× statements_code (coded× expression_code coded_ℕ))))))
     (λ m. (m.name, (m.returns, (m.formals, (m.locals, (m.body, (m.returned, m.return_mark)))))))
-    (λ x. record {
-      name = x.0;
-      returns = x.1.0;
-      formals = x.1.1.0;
-      locals = x.1.1.1.0;
-      body = x.1.1.1.1.0;
-      returned = x.1.1.1.1.1.0;
-      return_mark = x.1.1.1.1.1.1;
-    })
-    (λ _. refl)
+    made_method (λ _. refl)
 
 abbrev pub main_code : Coded Main
 main_code =
     code_by _ (coded× name_code statement_code) (λ m. (m.name, m.statement))
-    (λ x. record { name = x.0; statement = x.1 }) (λ _. refl)
+    made_main (λ _. refl)
 
 abbrev pub class_code : Coded trees.Class
 class_code =
     code_by _ (coded× name_code (coded× (coded_option name_code)
     (coded× (coded_list field_contracts.the_row.coded) (coded_list method_code))))
-    (λ c. (c.name, (c.superclass, (c.fields, c.methods))))
-    (λ x. record { name = x.0; superclass = x.1.0; fields = x.1.1.0; methods = x.1.1.1 })
-    (λ _. refl)
+    (λ c. (c.name, (c.superclass, (c.fields, c.methods)))) made_class (λ _. refl)
 
 abbrev pub file_code : Coded File
 file_code =
     code_by _ (coded× (coded_option main_code) (coded_list class_code)) (λ f. (f.main, f.classes))
-    (λ x. record { main = x.0; classes = x.1 }) (λ _. refl)
+    made_file (λ _. refl)

@@ -1,13 +1,13 @@
 -- An expression that is read is spelled so, and one that is spelled so is read.
-use Rattle.std.proofs.Common.{◌≡◌, ℕ, zero, suc, ◌^◌, ◌<◌, false, cond, ltb, ◌≤◌, List, [], ◌∷◌, ◌++◌, length, Option, Some, None, Result, Ok, refl, sym, ap, subst, ◌∙◌, append_assoc, arith}
+use Rattle.std.proofs.Common.{◌≡◌, ℕ, zero, suc, ◌^◌, ◌<◌, false, cond, ltb, ◌≤◌, List, [], ◌∷◌, ◌++◌, length, Option, Some, None, Result, Ok, refl, ap, subst, ◌∙◌, append_assoc, arith}
 use Rattle.std.proofs.lemmas.Bool.{ltb-false, le-ltb}
 use Rattle.mj_tree.specs.Trees as trees
 use Rattle.byte_readers.specs.declared.breach.Breach.{Breach}
 use Rattle.byte_readers.specs.declared.breach.Breach.TheVariants.{NotCanonical}
 use Rattle.byte_readers.specs.Spelling.{four, eight, name}
-use Rattle.byte_readers.specs.Reading.{◌>>=◌, Decoder, not_canonical, byte_at, four_at, made_at}
+use Rattle.byte_readers.specs.Reading.{◌>>=◌, Decoder, not_canonical, byte_at, four_at}
 use Rattle.byte_readers.specs.Lawful.{IsBytes, Takes, Lawful}
-use Rattle.byte_readers.specs.Laws.{IsBytes-rest, bind_ok, guard_ok, ok_is, Takes-then, takes_nothing, made_takes, made_again, lawful_four, lawful_name, lawful_pair}
+use Rattle.byte_readers.specs.Laws.{IsBytes-rest, bind_ok, guard_ok, ok_is, takes_nothing, made_again, lawful_four, lawful_name, lawful_pair}
 use Rattle.mj_tree.specs.Trees.{Expression, Expressions, none, more}
 use Rattle.mj_tree.specs.Views.{expressions_of}
 use Rattle.tree_spelling.specs.declared.tag.ExpTag.{ExpTag}
@@ -19,6 +19,7 @@ use Rattle.tree_spelling.specs.TagLaws.{exp_byte_is, exp_tag_back}
 use Rattle.tree_spelling.specs.Spelling.{node, exp, exps, count_exps}
 use Rattle.tree_spelling.specs.Storable.{ExpFits, ExpsFit}
 use Rattle.tree_spelling.specs.ListLaws.{IsListType, lawful_items}
+use Rattle.tree_spelling.specs.NodeLaws.{IsRead, read_made, node_takes}
 use Rattle.mj_lexer.specs.Bytes.{greatest_literal}
 use Rattle.tree_spelling.specs.Reading.{literal_at, exps_at, exp_body_at, exp_behind_tag, exp_at}
 
@@ -78,23 +79,9 @@ lawful_literal = record {
 -- ---- one level
 
 -- what follows a tag and a mark, and what was read there
-record Body (room : ℕ) (tag : ExpTag) (mark : ℕ) (bytes : List ℕ) (t : Expression)
-    (rest : List ℕ) : Type 0 where
-  pub text : List ℕ
-  pub takes : Takes bytes text rest
-  pub spelled : exp t ≡ node (exp_byte tag) mark text
-  pub fits : ExpFits (suc room) t
-
-body_made : {A : Type 0} {p : Decoder A} {sp : A → List ℕ} {P : A → Type 0} (law : Lawful p sp P)
-    (make : A → Expression) (room : ℕ) (tag : ExpTag) (mark : ℕ)
-    → ((a : A) → exp (make a) ≡ node (exp_byte tag) mark (sp a))
-    → ((a : A) → P a → ExpFits (suc room) (make a))
-    → (bytes : List ℕ) (t : Expression) (rest : List ℕ) → IsBytes bytes
-    → made_at make p bytes ≡ Ok (t, rest) → Body room tag mark bytes t rest
-body_made {A} {p} {sp} {P} law make room tag mark spelled fit bytes t rest fits e =
-    let m = made_takes law make bytes t rest fits e in
-    subst (λ (t : Expression). Body room tag mark bytes t rest)
-    m.1 record { text = sp m.0; takes = m.2; spelled = spelled m.0; fits = fit m.0 m.3 }
+abbrev Body : (room : ℕ) (tag : ExpTag) (mark : ℕ) (bytes : List ℕ) (t : Expression) (rest : List ℕ)
+    → Type 0
+Body room tag mark bytes t rest = IsRead exp (ExpFits (suc room)) (exp_byte tag) mark bytes t rest
 
 abbrev done : {A : Type 0} → A → Result A Breach
 done x = Ok x
@@ -117,39 +104,44 @@ body_takes : (room : ℕ) (part : Decoder Expression) (law : Lawful part exp (Ex
     → IsBytes bytes → exp_body_at part tag mark bytes ≡ Ok (t, rest)
     → Body room tag mark bytes t rest
 body_takes room part law (tags.Two (twos.Binary operator)) mark lt bytes t rest fits e =
-    body_made (lawful_pair law law) (λ x. trees.Binary operator mark x.0 x.1) room
-    (tags.Two (twos.Binary operator)) mark (λ _. refl) (λ a h. (lt, h)) bytes t rest fits e
+    read_made (lawful_pair law law) (λ x. trees.Binary operator mark x.0 x.1)
+    (exp_byte (tags.Two (twos.Binary operator))) mark (λ _. refl) (λ a h. (lt, h)) bytes t rest
+    fits e
 body_takes room part law (tags.Two twos.Index) mark lt bytes t rest fits e =
-    body_made (lawful_pair law law) (λ x. trees.Index mark x.0 x.1) room (tags.Two twos.Index) mark
+    read_made (lawful_pair law law) (λ x. trees.Index mark x.0 x.1)
+    (exp_byte (tags.Two twos.Index)) mark
     (λ _. refl) (λ a h. (lt, h)) bytes t rest fits e
 body_takes room part law (tags.One ones.Length) mark lt bytes t rest fits e =
-    body_made law (trees.Length mark) room (tags.One ones.Length) mark (λ _. refl) (λ a h. (lt, h))
+    read_made law (trees.Length mark) (exp_byte (tags.One ones.Length)) mark (λ _. refl)
+    (λ a h. (lt, h))
     bytes t rest fits e
 body_takes room part law (tags.One ones.NewArray) mark lt bytes t rest fits e =
-    body_made law (trees.NewArray mark) room (tags.One ones.NewArray) mark (λ _. refl)
+    read_made law (trees.NewArray mark) (exp_byte (tags.One ones.NewArray)) mark (λ _. refl)
     (λ a h. (lt, h)) bytes t rest fits e
 body_takes room part law (tags.One ones.Not) mark lt bytes t rest fits e =
-    body_made law (trees.Not mark) room (tags.One ones.Not) mark (λ _. refl) (λ a h. (lt, h))
+    read_made law (trees.Not mark) (exp_byte (tags.One ones.Not)) mark (λ _. refl) (λ a h. (lt, h))
     bytes t rest fits e
 body_takes room part law (tags.One ones.Parenthesized) mark lt bytes t rest fits e =
-    body_made law (trees.Parenthesized mark) room (tags.One ones.Parenthesized) mark (λ _. refl)
+    read_made law (trees.Parenthesized mark) (exp_byte (tags.One ones.Parenthesized)) mark
+    (λ _. refl)
     (λ a h. (lt, h)) bytes t rest fits e
 body_takes room part law tags.Call mark lt bytes t rest fits e =
-    body_made (lawful_pair law (lawful_pair lawful_name (lawful_exps room law)))
-    (λ x. trees.Call mark x.0 x.1.0 x.1.1) room tags.Call mark (λ _. refl) (λ a h. (lt, h))
+    read_made (lawful_pair law (lawful_pair lawful_name (lawful_exps room law)))
+    (λ x. trees.Call mark x.0 x.1.0 x.1.1) (exp_byte tags.Call) mark (λ _. refl) (λ a h. (lt, h))
     bytes t rest fits e
 body_takes room part law tags.Literal mark lt bytes t rest fits e =
-    body_made lawful_literal (trees.Literal mark) room tags.Literal mark (λ _. refl)
+    read_made lawful_literal (trees.Literal mark) (exp_byte tags.Literal) mark (λ _. refl)
     (λ a h. (lt, h)) bytes t rest fits e
 body_takes room part law (tags.Boolean value) mark lt bytes t rest fits e =
     body_leaf (trees.Boolean mark value) room (tags.Boolean value) mark refl lt bytes t rest fits e
 body_takes room part law tags.Variable mark lt bytes t rest fits e =
-    body_made lawful_name (trees.Named mark) room tags.Variable mark (λ _. refl) (λ a h. (lt, h))
+    read_made lawful_name (trees.Named mark) (exp_byte tags.Variable) mark (λ _. refl)
+    (λ a h. (lt, h))
     bytes t rest fits e
 body_takes room part law tags.This mark lt bytes t rest fits e =
     body_leaf (trees.This mark) room tags.This mark refl lt bytes t rest fits e
 body_takes room part law tags.NewObject mark lt bytes t rest fits e =
-    body_made lawful_name (trees.NewObject mark) room tags.NewObject mark (λ _. refl)
+    read_made lawful_name (trees.NewObject mark) (exp_byte tags.NewObject) mark (λ _. refl)
     (λ a h. (lt, h)) bytes t rest fits e
 
 tagged_takes : (room : ℕ) (part : Decoder Expression) (law : Lawful part exp (ExpFits room))
@@ -162,12 +154,7 @@ tagged_takes room part law whole b (Some tag) is bytes t rest fits e =
     let a = bind_ok (four_at bytes) (λ mark. exp_body_at part tag mark.0 mark.1) (t, rest) e in
     let m = lawful_four.takes bytes a.0.0 a.0.1 fits a.1 in
     let body = body_takes room part law tag a.0.0 m.1 a.0.1 t rest m.0.rest_fits a.2 in
-    let both = Takes-then bytes (four a.0.0) a.0.1 body.text rest m.0 body.takes in
-    let all : b ∷ bytes ≡ exp t ++ rest =
-    ap (λ (x : List ℕ). b ∷ x) both.parts
-    ∙ ap (λ (x : ℕ). x ∷ ((four a.0.0 ++ body.text) ++ rest)) (sym (exp_byte_is b tag is))
-    ∙ ap (λ (x : List ℕ). x ++ rest) (sym body.spelled) in
-    (record { parts = all; rest_fits = both.rest_fits }, body.fits)
+    node_takes b (exp_byte tag) a.0.0 bytes a.0.1 t rest (exp_byte_is b tag is) m.0 body
 
 -- an expression whose parts are read back
 spelled_at : Decoder Expression → List ℕ → Result (Expression × List ℕ) Breach

@@ -8,7 +8,7 @@ use Rattle.byte_readers.specs.Laws.{IsBytes-rest, takes_behind, lawful_name, law
 use Rattle.tree_spelling.specs.Spelling.{exp, stmt, stmts, count_stmts, method, tagged_method, main, class, file}
 use Rattle.mj_tree.specs.Limits.{most_levels}
 use Rattle.tree_spelling.specs.Storable.{TopStmtFits, TopStmtsFit, TopExpFits, MethodFits, MainFits, ClassFits, FileFits}
-use Rattle.tree_spelling.specs.Reading.{top_stmt_at, top_stmts_at, top_exp_at, method_of, method_at, tagged_method_at, main_of, main_at, class_of, class_at, file_of, file_at}
+use Rattle.tree_spelling.specs.Reading.{top_stmt_at, top_stmts_at, top_exp_at, made_method, method_at, tagged_method_at, made_main, main_at, made_class, class_at, made_file, file_at}
 use Rattle.tree_spelling.specs.TypeLaws.{lawful_ty, lawful_field, lawful_variable}
 use Rattle.tree_spelling.specs.ExpLaws.{lawful_exp}
 use Rattle.tree_spelling.specs.StmtLaws.{lawful_stmt, lawful_stmts}
@@ -35,7 +35,7 @@ lawful_method =
     (lawful_pair (lawful_list lawful_variable any)
     (lawful_pair (lawful_list lawful_variable any)
     (lawful_pair lawful_top_stmts (lawful_pair lawful_top_exp lawful_four))))))
-    method_of (λ m. (
+    made_method (λ m. (
       m.name,
       (
         m.returns,
@@ -90,7 +90,7 @@ lawful_tagged = record { takes = tagged_takes; again = λ m rest h. lawful_metho
 pub lawful_main : Lawful main_at main MainFits
 unfolding main_at
 lawful_main =
-    lawful_where (lawful_made (lawful_pair lawful_name lawful_top_stmt) main_of
+    lawful_where (lawful_made (lawful_pair lawful_name lawful_top_stmt) made_main
     (λ m. (m.name, m.statement)) (λ _. refl) (λ _. refl))
     (λ m h. record { name = h.0; statement = h.1 }) (λ m h. (h.name, h.statement))
 
@@ -100,7 +100,7 @@ lawful_class =
     lawful_where
     (lawful_made (lawful_pair lawful_name
     (lawful_pair (lawful_option lawful_name)
-    (lawful_pair (lawful_list lawful_field any) (lawful_list lawful_tagged any)))) class_of
+    (lawful_pair (lawful_list lawful_field any) (lawful_list lawful_tagged any)))) made_class
     (λ c. (c.name, (c.superclass, (c.fields, c.methods)))) (λ _. refl) (λ _. refl))
     (λ c h. record {
       name = h.0;
@@ -125,6 +125,6 @@ pub lawful_file : Lawful file_at file FileFits
 unfolding file_at file
 lawful_file =
     lawful_where (lawful_made (lawful_pair (lawful_option lawful_main)
-    (lawful_list lawful_class any)) file_of (λ f. (f.main, f.classes)) (λ _. refl) (λ _. refl))
+    (lawful_list lawful_class any)) made_file (λ f. (f.main, f.classes)) (λ _. refl) (λ _. refl))
     (λ f h. record { main = h.0; few = h.1.few; classes = h.1.fit })
     (λ f h. (h.main, record { few = h.few; fit = h.classes; admitted = any_admits [] f.classes }))

@@ -7,6 +7,7 @@ pub mod Codes
 pub mod TagLaws
 pub mod TypeLaws
 pub mod ListLaws
+pub mod NodeLaws
 pub mod ExpLaws
 pub mod StmtLaws
 pub mod FileLaws

@@ -29,17 +29,17 @@ ty_at (suc (suc zero) ∷ rest) = Ok (IntArray, rest)
 ty_at (suc (suc (suc zero)) ∷ rest) = made_at Class name_at rest
 ty_at (suc (suc (suc (suc b))) ∷ rest) = not_canonical (suc (suc (suc (suc b))) ∷ rest)
 
-abbrev pub field_of : List ℕ × Ty → Field
-field_of x = record { name = x.0; ty = x.1 }
+abbrev pub made_field : List ℕ × Ty → Field
+made_field x = record { name = x.0; ty = x.1 }
 
 abbrev pub field_at : Decoder Field
-field_at bytes = made_at field_of (pair_at name_at ty_at) bytes
+field_at bytes = made_at made_field (pair_at name_at ty_at) bytes
 
-abbrev pub variable_of : List ℕ × (Ty × ℕ) → Variable
-variable_of x = record { name = x.0; ty = x.1.0; mark = x.1.1 }
+abbrev pub made_variable : List ℕ × (Ty × ℕ) → Variable
+made_variable x = record { name = x.0; ty = x.1.0; mark = x.1.1 }
 
 abbrev pub variable_at : Decoder Variable
-variable_at bytes = made_at variable_of (pair_at name_at (pair_at ty_at four_at)) bytes
+variable_at bytes = made_at made_variable (pair_at name_at (pair_at ty_at four_at)) bytes
 
 unfoldable pub literal_at : Decoder ℕ
 literal_at bytes = do
@@ -127,9 +127,9 @@ top_stmts_at bytes = stmts_at (stmt_at most_levels) bytes
 unfoldable pub top_exp_at : Decoder Expression
 top_exp_at bytes = exp_at most_levels bytes
 
-abbrev pub method_of : List ℕ × (Ty
+abbrev pub made_method : List ℕ × (Ty
     × (List Variable × (List Variable × (Statements × (Expression × ℕ))))) → Method
-method_of x =
+made_method x =
     record {
       name = x.0;
       returns = x.1.0;
@@ -142,7 +142,7 @@ method_of x =
 
 unfoldable pub method_at : Decoder Method
 method_at bytes =
-    made_at method_of (pair_at name_at
+    made_at made_method (pair_at name_at
     (pair_at ty_at (pair_at (list_at variable_at any)
     (pair_at (list_at variable_at any)
     (pair_at top_stmts_at (pair_at top_exp_at four_at)))))) bytes
@@ -159,23 +159,23 @@ tagged_method_at (zero ∷ rest) = not_canonical (zero ∷ rest)
 tagged_method_at (suc zero ∷ rest) = method_at rest
 tagged_method_at (suc (suc b) ∷ rest) = not_canonical (suc (suc b) ∷ rest)
 
-abbrev pub main_of : List ℕ × Statement → Main
-main_of x = record { name = x.0; statement = x.1 }
+abbrev pub made_main : List ℕ × Statement → Main
+made_main x = record { name = x.0; statement = x.1 }
 
 unfoldable pub main_at : Decoder Main
-main_at bytes = made_at main_of (pair_at name_at top_stmt_at) bytes
+main_at bytes = made_at made_main (pair_at name_at top_stmt_at) bytes
 
-abbrev pub class_of : List ℕ × (Option (List ℕ) × (List Field × List Method)) → trees.Class
-class_of x = record { name = x.0; superclass = x.1.0; fields = x.1.1.0; methods = x.1.1.1 }
+abbrev pub made_class : List ℕ × (Option (List ℕ) × (List Field × List Method)) → trees.Class
+made_class x = record { name = x.0; superclass = x.1.0; fields = x.1.1.0; methods = x.1.1.1 }
 
 unfoldable pub class_at : Decoder trees.Class
 class_at bytes =
-    made_at class_of (pair_at name_at
+    made_at made_class (pair_at name_at
     (pair_at (option_at name_at)
     (pair_at (list_at field_at any) (list_at tagged_method_at any)))) bytes
 
-abbrev pub file_of : Option Main × List trees.Class → File
-file_of x = record { main = x.0; classes = x.1 }
+abbrev pub made_file : Option Main × List trees.Class → File
+made_file x = record { main = x.0; classes = x.1 }
 
 unfoldable pub file_at : Decoder File
-file_at bytes = made_at file_of (pair_at (option_at main_at) (list_at class_at any)) bytes
+file_at bytes = made_at made_file (pair_at (option_at main_at) (list_at class_at any)) bytes

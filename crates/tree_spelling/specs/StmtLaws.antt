@@ -1,11 +1,11 @@
 -- A statement that is read is spelled so, and one that is spelled so is read.
-use Rattle.std.proofs.Common.{◌≡◌, ℕ, zero, suc, ◌^◌, ◌<◌, List, [], ◌∷◌, ◌++◌, Option, Some, None, Result, Ok, refl, sym, ap, subst, ◌∙◌, append_assoc}
+use Rattle.std.proofs.Common.{◌≡◌, ℕ, zero, suc, ◌^◌, ◌<◌, List, [], ◌∷◌, ◌++◌, Option, Some, None, Result, Ok, refl, ap, ◌∙◌, append_assoc}
 use Rattle.mj_tree.specs.Trees as trees
 use Rattle.byte_readers.specs.declared.breach.Breach.{Breach}
 use Rattle.byte_readers.specs.Spelling.{four, eight, name}
-use Rattle.byte_readers.specs.Reading.{◌>>=◌, Decoder, byte_at, four_at, made_at}
+use Rattle.byte_readers.specs.Reading.{◌>>=◌, Decoder, byte_at, four_at}
 use Rattle.byte_readers.specs.Lawful.{IsBytes, Takes, Lawful}
-use Rattle.byte_readers.specs.Laws.{IsBytes-rest, bind_ok, Takes-then, made_takes, made_again, lawful_four, lawful_name, lawful_pair}
+use Rattle.byte_readers.specs.Laws.{IsBytes-rest, bind_ok, made_again, lawful_four, lawful_name, lawful_pair}
 use Rattle.mj_tree.specs.Trees.{Statement, Statements, done, next}
 use Rattle.mj_tree.specs.Views.{statements_of}
 use Rattle.tree_spelling.specs.declared.tag.StmtTag.{StmtTag}
@@ -16,6 +16,7 @@ use Rattle.tree_spelling.specs.Spelling.{node, exp, stmt, stmts, count_stmts}
 use Rattle.tree_spelling.specs.Storable.{StmtFits, StmtsFit}
 use Rattle.tree_spelling.specs.Reading.{stmts_at, stmt_body_at, stmt_behind_tag, exp_at, stmt_at}
 use Rattle.tree_spelling.specs.ListLaws.{IsListType, lawful_items}
+use Rattle.tree_spelling.specs.NodeLaws.{IsRead, read_made, node_takes}
 use Rattle.tree_spelling.specs.ExpLaws.{lawful_exp}
 
 -- ---- lists of statements
@@ -54,49 +55,38 @@ lawful_stmts room law = lawful_items (are_listed room) law
 -- ---- one level
 
 -- what follows a tag and a mark, and what was read there
-record Body (room : ℕ) (tag : StmtTag) (mark : ℕ) (bytes : List ℕ) (t : Statement)
-    (rest : List ℕ) : Type 0 where
-  pub text : List ℕ
-  pub takes : Takes bytes text rest
-  pub spelled : stmt t ≡ node (stmt_byte tag) mark text
-  pub fits : StmtFits (suc room) t
-
-body_made : {A : Type 0} {p : Decoder A} {sp : A → List ℕ} {P : A → Type 0} (law : Lawful p sp P)
-    (make : A → Statement) (room : ℕ) (tag : StmtTag) (mark : ℕ)
-    → ((a : A) → stmt (make a) ≡ node (stmt_byte tag) mark (sp a))
-    → ((a : A) → P a → StmtFits (suc room) (make a))
-    → (bytes : List ℕ) (t : Statement) (rest : List ℕ) → IsBytes bytes
-    → made_at make p bytes ≡ Ok (t, rest) → Body room tag mark bytes t rest
-body_made {A} {p} {sp} {P} law make room tag mark spelled fit bytes t rest fits e =
-    let m = made_takes law make bytes t rest fits e in
-    subst (λ (t : Statement). Body room tag mark bytes t rest)
-    m.1 record { text = sp m.0; takes = m.2; spelled = spelled m.0; fits = fit m.0 m.3 }
+abbrev Body : (room : ℕ) (tag : StmtTag) (mark : ℕ) (bytes : List ℕ) (t : Statement) (rest : List ℕ)
+    → Type 0
+Body room tag mark bytes t rest = IsRead stmt (StmtFits (suc room)) (stmt_byte tag) mark bytes t
+    rest
 
 body_takes : (room : ℕ) (part : Decoder Statement) (law : Lawful part stmt (StmtFits room))
     (tag : StmtTag) (mark : ℕ) → mark < 2 ^ 32 → (bytes : List ℕ) (t : Statement) (rest : List ℕ)
     → IsBytes bytes → stmt_body_at (exp_at room) part tag mark bytes ≡ Ok (t, rest)
     → Body room tag mark bytes t rest
 body_takes room part law tags.Block mark lt bytes t rest fits e =
-    body_made (lawful_stmts room law) (trees.Block mark) room tags.Block mark (λ _. refl)
+    read_made (lawful_stmts room law) (trees.Block mark) (stmt_byte tags.Block) mark (λ _. refl)
     (λ a h. (lt, h)) bytes t rest fits e
 body_takes room part law tags.If mark lt bytes t rest fits e =
-    body_made (lawful_pair (lawful_exp room) (lawful_pair law law))
-    (λ x. trees.If mark x.0 x.1.0 x.1.1) room tags.If mark (λ _. refl) (λ a h. (lt, h))
+    read_made (lawful_pair (lawful_exp room) (lawful_pair law law))
+    (λ x. trees.If mark x.0 x.1.0 x.1.1) (stmt_byte tags.If) mark (λ _. refl) (λ a h. (lt, h))
     bytes t rest fits e
 body_takes room part law tags.While mark lt bytes t rest fits e =
-    body_made (lawful_pair (lawful_exp room) law) (λ x. trees.While mark x.0 x.1) room tags.While
-    mark (λ _. refl) (λ a h. (lt, h)) bytes t rest fits e
+    read_made (lawful_pair (lawful_exp room) law) (λ x. trees.While mark x.0 x.1)
+    (stmt_byte tags.While) mark (λ _. refl) (λ a h. (lt, h)) bytes t rest fits e
 body_takes room part law tags.Print mark lt bytes t rest fits e =
-    body_made (lawful_exp room) (trees.Print mark) room tags.Print mark (λ _. refl) (λ a h. (lt, h))
+    read_made (lawful_exp room) (trees.Print mark) (stmt_byte tags.Print) mark (λ _. refl)
+    (λ a h. (lt, h))
     bytes t rest fits e
 body_takes room part law tags.Assign mark lt bytes t rest fits e =
-    body_made (lawful_pair lawful_name (lawful_pair lawful_four (lawful_exp room)))
-    (λ x. trees.Assign mark x.0 x.1.0 x.1.1) room tags.Assign mark (λ _. refl) (λ a h. (lt, h))
+    read_made (lawful_pair lawful_name (lawful_pair lawful_four (lawful_exp room)))
+    (λ x. trees.Assign mark x.0 x.1.0 x.1.1) (stmt_byte tags.Assign) mark (λ _. refl)
+    (λ a h. (lt, h))
     bytes t rest fits e
 body_takes room part law tags.Store mark lt bytes t rest fits e =
-    body_made (lawful_pair lawful_name
+    read_made (lawful_pair lawful_name
     (lawful_pair lawful_four (lawful_pair (lawful_exp room) (lawful_exp room))))
-    (λ x. trees.Store mark x.0 x.1.0 x.1.1.0 x.1.1.1) room tags.Store mark (λ _. refl)
+    (λ x. trees.Store mark x.0 x.1.0 x.1.1.0 x.1.1.1) (stmt_byte tags.Store) mark (λ _. refl)
     (λ a h. (lt, h)) bytes t rest fits e
 
 tagged_takes : (room : ℕ) (part : Decoder Statement) (law : Lawful part stmt (StmtFits room))
@@ -111,12 +101,7 @@ tagged_takes room part law whole b (Some tag) is bytes t rest fits e =
     (t, rest) e in
     let m = lawful_four.takes bytes a.0.0 a.0.1 fits a.1 in
     let body = body_takes room part law tag a.0.0 m.1 a.0.1 t rest m.0.rest_fits a.2 in
-    let both = Takes-then bytes (four a.0.0) a.0.1 body.text rest m.0 body.takes in
-    let all : b ∷ bytes ≡ stmt t ++ rest =
-    ap (λ (x : List ℕ). b ∷ x) both.parts
-    ∙ ap (λ (x : ℕ). x ∷ ((four a.0.0 ++ body.text) ++ rest)) (sym (stmt_byte_is b tag is))
-    ∙ ap (λ (x : List ℕ). x ++ rest) (sym body.spelled) in
-    (record { parts = all; rest_fits = both.rest_fits }, body.fits)
+    node_takes b (stmt_byte tag) a.0.0 bytes a.0.1 t rest (stmt_byte_is b tag is) m.0 body
 
 -- a statement whose parts are read back
 spelled_at : ℕ → Decoder Statement → List ℕ → Result (Statement × List ℕ) Breach

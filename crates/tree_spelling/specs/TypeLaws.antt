@@ -9,7 +9,7 @@ use Rattle.byte_readers.specs.Lawful.{IsBytes, Takes, Lawful}
 use Rattle.byte_readers.specs.Laws.{IsBytes-rest, ok_is, takes_nothing, takes_behind, made_takes, made_again, lawful_name, lawful_four, lawful_pair, lawful_made}
 use Rattle.tree_spelling.specs.Spelling.{ty, field, variable}
 use Rattle.tree_spelling.specs.Storable.{TyFits, FieldFits, VariableFits}
-use Rattle.tree_spelling.specs.Reading.{ty_at, field_of, field_at, variable_of, variable_at}
+use Rattle.tree_spelling.specs.Reading.{ty_at, made_field, field_at, made_variable, variable_at}
 
 abbrev done : {A : Type 0} → A → Result A Breach
 done x = Ok x
@@ -49,10 +49,10 @@ lawful_ty = record { takes = ty_takes; again = ty_again }
 
 pub lawful_field : Lawful field_at field FieldFits
 lawful_field =
-    lawful_made (lawful_pair lawful_name lawful_ty) field_of (λ f. (f.name, f.ty))
+    lawful_made (lawful_pair lawful_name lawful_ty) made_field (λ f. (f.name, f.ty))
     (λ _. refl) (λ _. refl)
 
 pub lawful_variable : Lawful variable_at variable VariableFits
 lawful_variable =
-    lawful_made (lawful_pair lawful_name (lawful_pair lawful_ty lawful_four)) variable_of
+    lawful_made (lawful_pair lawful_name (lawful_pair lawful_ty lawful_four)) made_variable
     (λ v. (v.name, (v.ty, v.mark))) (λ _. refl) (λ _. refl)

@@ -3,10 +3,7 @@
 
 mod expressions;
 mod methods;
-mod skip_expressions;
-mod skip_methods;
-mod skip_parts;
-mod skip_statements;
+mod skip;
 mod statements;
 mod tag;
 mod types;
@@ -14,8 +11,8 @@ mod variables;
 mod writing;
 
 pub use methods::read_method;
-pub use skip_methods::skip_method;
-pub use skip_statements::skip_top_stmt;
+pub use skip::methods::skip_method;
+pub use skip::statements::skip_top_stmt;
 pub use statements::read_top_stmt;
 pub use types::{FieldFormat, TypeFormat, check_ty, put_ty, read_ty};
 pub use variables::VariableFormat;

@@ -1,29 +1,21 @@
-use Rattle.std.proofs.Common.{◌≡◌, ◌<◌, ◌≤◌, ◌∙◌, sym, ap, length, true, false, arith, inl, inr}
-use Rattle.std.proofs.lemmas.Bool.Decides.{nat_tests}
+use Rattle.std.proofs.Common.{◌∙◌, ap, option_map}
+use Rattle.std.specs.Option.{option_copied}
 use Rattle.std.proofs.lemmas.Result.{on_ok_weaker}
+use Rattle.mj_answer.proofs.Searches.{option_copied-get}
 use Rattle.answer_queries.specs.Trees.{named_tree}
-use Rattle.answer_queries.specs.declared.trees.ParsedFile.{ParsedFile}
-use Rattle.answer_queries.proofs.Steps.{file_at, past_end, none_added, one_added}
+use Rattle.answer_queries.proofs.Steps.{file_there, none_added, one_added}
 use Rattle.answer_queries.proofs.project_faults.add_repeated_class.Goals as goal
-use Rattle.answer_queries.proofs.project_faults.add_repeated_class.Goals.{then-not-repeated-via-then-not-repeated, then-not-repeated-via-else-not-repeated+then-file-files}
 
-pub returns-then-not-repeated : goal.returns-then-not-repeated
-returns-then-not-repeated c =
-    elim c.then-not-repeated.branch [
-      | then-not-repeated-via-then-not-repeated w ↦
-          let off : c.args.repeated ≡ false = grind (arith, nat_tests) in
-          none_added c.args.faults.now.items c.args.repeated _ c.args.number (inl off)
-      | then-not-repeated-via-else-not-repeated+then-file-files w ↦
-          let end : length c.args.files.now ≤ c.args.file = omega arith in
-          none_added c.args.faults.now.items c.args.repeated _ c.args.number (inr (past_end c.args.files.now c.args.file end))
-    ]
+pub returns-in-None : goal.returns-in-None
+returns-in-None c =
+    let found = option_copied-get c.args.files.now c.args.class.now.file c.get.result c.get.ensures.lookup.0 c.get.ensures.lookup.1 in
+    none_added c.args.faults.now.items _ c.args.class.now.number (file_there c.args.files.now c.args.class.now.file (option_copied c.get.result) found ∙ ap (λ o. option_map named_tree (option_copied o)) c.in-None.is)
 
-pub returns : goal.returns
-returns c =
-    let within : c.args.file < length c.args.files.now = omega arith in
-    let on : c.args.repeated ≡ true = grind (arith, nat_tests) in
+pub returns-in_ok-copy-in-Some : goal.returns-in_ok-copy-in-Some
+returns-in_ok-copy-in-Some c =
+    let found = option_copied-get c.args.files.now c.args.class.now.file c.get.result c.get.ensures.lookup.0 c.get.ensures.lookup.1 in
     on_ok_weaker c.note_fault.result
-    (λ added. one_added c.args.faults.now.items c.note_fault.new.faults.items c.in_ok-copy.field-0 c.args.number c.args.repeated _ (named_tree c.index-files-file.result) added on
-    (file_at c.args.files.now c.args.file c.index-files-file.result within c.index-files-file.is)
-    (c.in_ok-copy.ensures ∙ ap (λ (f : ParsedFile). f.name) (sym c.index-files-file.is)))
+    (λ added. one_added c.args.faults.now.items c.note_fault.new.faults.items c.in_ok-copy-in-Some.field-0 c.args.class.now.number _ (named_tree c.in-Some.file.now) added
+    (file_there c.args.files.now c.args.class.now.file (option_copied c.get.result) found ∙ ap (λ o. option_map named_tree (option_copied o)) c.in-Some.is)
+    c.in_ok-copy-in-Some.ensures)
     c.note_fault.ensures

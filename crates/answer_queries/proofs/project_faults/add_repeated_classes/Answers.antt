@@ -1,11 +1,14 @@
-use Rattle.std.proofs.Common.{◌<◌, get_or, false, ◌∙◌, length, arith}
+use Rattle.std.proofs.Common.{◌≡◌, ◌<◌, ◌++◌, get_or, slice_get, false, ap, ◌∙◌, inl, inr, length, arith}
 use Rattle.std.proofs.lemmas.List.{length-map}
+use Rattle.mj_tree.proofs.Positions.{read_at}
 use Rattle.mj_project.specs.Repeats.{repeats}
 use Rattle.mj_project.proofs.Listed.{map_at}
-use Rattle.mj_rules.proofs.Steps.{each_step, flag_read, flag_within, item_at}
+use Rattle.mj_rules.proofs.Steps.{each_step, flag_read, flag_within}
 use Rattle.answer_queries.specs.Trees.{named_trees}
-use Rattle.answer_queries.specs.ProjectFaults.{NamedClass, class_names, name_view, names_view, repeat_faults}
+use Rattle.answer_queries.specs.ProjectFaults.{NamedClass, class_names, name_view, names_view, repeated_class, repeat_faults}
+use Rattle.answer_queries.proofs.Steps.{by_flag}
 use Rattle.answer_queries.proofs.project_faults.add_repeated_classes.Goals as goal
+use Rattle.answer_queries.proofs.project_faults.add_repeated_classes.Goals.{then-flags-number+in_ok-add_repeated_class, else-flags-number}
 
 pub bounds-flags-number : goal.bounds-flags-number
 bounds-flags-number c =
@@ -22,10 +25,19 @@ loop-number-preserved c =
     let named : c.loop-number.number < length (class_names (names_view c.args.classes.now)) = omega arith in
     let flags = c.as_slice-flags.ensures.value ∙ c.in_ok-repeated.ensures in
     let class = c.index-classes-number.result in
-    each_step (repeat_faults (named_trees c.args.files.now)) (names_view c.args.classes.now) (repeats (class_names (names_view c.args.classes.now))) c.loop-number.number (name_view class) (get_or c.as_slice-flags.result.now c.loop-number.number false)
-    c.loop-number.faults.items c.add_repeated_class.new.faults.items
-    (map_at name_view c.args.classes.now c.loop-number.number class (item_at c.args.classes.now c.loop-number.number class within c.index-classes-number.is))
+    let flag = get_or c.as_slice-flags.result.now c.loop-number.number false in
+    let faults = repeat_faults (named_trees c.args.files.now) in
+    let repeated = repeated_class (slice_get (named_trees c.args.files.now) class.file) class.number in
+    let added : c.if-flags-number.faults.items ≡ c.loop-number.faults.items ++ faults c.loop-number.number flag (name_view class) =
+    elim c.if-flags-number.branch [
+      | then-flags-number+in_ok-add_repeated_class w ↦
+          by_flag flag c.loop-number.faults.items c.if-flags-number.faults.items repeated (inl (w.if-flags-number.true, ap (λ v. v.items) w.faults-is ∙ w.in_ok-add_repeated_class.ensures))
+      | else-flags-number w ↦ by_flag flag c.loop-number.faults.items c.if-flags-number.faults.items repeated (inr (w.if-flags-number.false, ap (λ v. v.items) w.faults-is))
+    ] in
+    each_step faults (names_view c.args.classes.now) (repeats (class_names (names_view c.args.classes.now))) c.loop-number.number (name_view class) flag
+    c.loop-number.faults.items c.if-flags-number.faults.items
+    (map_at name_view c.args.classes.now c.loop-number.number class (read_at c.args.classes.now c.loop-number.number class within c.index-classes-number.is))
     (flag_read (repeats (class_names (names_view c.args.classes.now))) c.as_slice-flags.result.now c.loop-number.number false flags
     (flag_within (class_names (names_view c.args.classes.now)) c.as_slice-flags.result.now c.loop-number.number flags named))
-    c.in_ok-add_repeated_class.ensures
+    added
     ∙ c.loop-number.invariant

@@ -1,14 +1,9 @@
-use Rattle.std.proofs.Common.{◌≤◌, ℕ, List, map, length, sym, subst, arith}
-use Rattle.std.specs.Prelude.{Result, IfOk}
+use Rattle.std.proofs.Common.{ℕ, List, map, arith}
 use Rattle.std.specs.Borrow.{Bor}
-use Rattle.std.proofs.lemmas.List.{length-map}
 use Rattle.query_rules.specs.Queries.{queries}
-use Rattle.providers.specs.Laws.{mini_java_laws}
-use Rattle.audit_graph.specs.declared.fault.AuditFault.{AuditFault}
 use Rattle.audit_replay.proofs.FileRules.{file_there}
-use Rattle.audit_replay.proofs.SumEnds.{summed_next, summed_all, audit_accepts}
-use Rattle.audit_fixtures.specs.Chains.{IsAcceptedAs}
-use Rattle.audit_fixtures.proofs.Saying.{said_accepts}
+use Rattle.audit_replay.proofs.SumEnds.{summed_next}
+use Rattle.audit_fixtures.proofs.Saying.{said_in_end}
 use Rattle.audit_fixtures.proofs.auditors.taken_in_turn.Goals as goal
 
 pub loop-file-preserved : goal.loop-file-preserved
@@ -22,13 +17,5 @@ loop-file-preserved c =
 
 pub returns : goal.returns
 returns c =
-    let files : List (List ℕ) = map (λ (f : Bor (List ℕ)). f.now) c.args.files.now in
-    let at = c.loop-file.file-index in
-    let many = length-map c.args.files.now (λ (f : Bor (List ℕ)). f.now) in
-    let le : length files ≤ at = omega (arith, many) in
-    let old = c.args.runner.now.log.items in
-    let new = c.loop-file.runner.log.items in
-    let t = summed_all queries files at le old new c.loop-file.auditor.state c.loop-file.invariant in
-    let e = c.end.ensures.gives t.sessions t.sums in
-    subst (λ (said : Result (ℕ × ℕ) AuditFault). IfOk said (IsAcceptedAs files old new)) (sym c.told.ensures)
-    (said_accepts files old new c.end.result (audit_accepts queries mini_java_laws files old new c.loop-file.auditor.state t c.end.result e))
+    said_in_end c.args.files.now c.loop-file.file-index (omega arith) c.args.runner.now.log.items c.loop-file.runner.log.items c.loop-file.auditor.state c.loop-file.invariant
+    c.end.result c.end.ensures.gives c.told.result c.told.ensures

@@ -4,35 +4,22 @@ use Rattle.audit_replay.proofs.AuditLogs.{refused_log}
 use Rattle.audit_replay.proofs.SumEnds.{against_accepts, against_last, against_right, against_means, against_refuses, against_logs, against_logs_refused, behind, behind_against}
 use Rattle.audit_replay.proofs.against.audit_against.Goals as goal
 
-pub returns-in-Ok-clause-accepted : goal.returns-in-Ok-clause-accepted
-returns-in-Ok-clause-accepted g c =
+pub returns-in-Ok : goal.returns-in-Ok
+returns-in-Ok g c =
+    let files : List (List ℕ) = map (λ (f : Bor (List ℕ)). f.now) c.args.chain.now in
+    let old = g.R.Runner.log c.args.runner.now in
+    let new = g.R.Runner.log c.audit_files.new.runner in
     let t = c.in-Ok.ensures.summed in
-    against_accepts g.R.Runner.queries g.met.R.Runner.laws (map (λ (f : Bor (List ℕ)). f.now) c.args.chain.now) (g.R.Runner.log c.args.runner.now) (g.R.Runner.log c.audit_files.new.runner)
-    c.in-Ok.auditor.state t c.args.project.now c.end_against.result (c.end_against.ensures.gives t.sessions t.sums)
-
-pub returns-in-Ok-clause-profile : goal.returns-in-Ok-clause-profile
-returns-in-Ok-clause-profile g c =
-    let t = c.in-Ok.ensures.summed in
-    against_last g.R.Runner.queries g.met.R.Runner.laws (map (λ (f : Bor (List ℕ)). f.now) c.args.chain.now) (g.R.Runner.log c.args.runner.now) (g.R.Runner.log c.audit_files.new.runner)
-    c.in-Ok.auditor.state t c.args.project.now c.end_against.result (c.end_against.ensures.gives t.sessions t.sums)
-
-pub returns-in-Ok-clause-right : goal.returns-in-Ok-clause-right
-returns-in-Ok-clause-right g c =
-    let t = c.in-Ok.ensures.summed in
-    against_right g.R.Runner.queries g.met.R.Runner.laws (map (λ (f : Bor (List ℕ)). f.now) c.args.chain.now) (g.R.Runner.log c.args.runner.now) (g.R.Runner.log c.audit_files.new.runner)
-    c.in-Ok.auditor.state t c.args.project.now c.end_against.result (c.end_against.ensures.gives t.sessions t.sums)
-
-pub returns-in-Ok-clause-means : goal.returns-in-Ok-clause-means
-returns-in-Ok-clause-means g c =
-    let t = c.in-Ok.ensures.summed in
-    against_means g.R.Runner.queries g.met.R.Runner.laws (map (λ (f : Bor (List ℕ)). f.now) c.args.chain.now) (g.R.Runner.log c.args.runner.now) (g.R.Runner.log c.audit_files.new.runner)
-    c.in-Ok.auditor.state t c.args.project.now c.end_against.result (c.end_against.ensures.gives t.sessions t.sums)
-
-pub returns-in-Ok-clause-refused : goal.returns-in-Ok-clause-refused
-returns-in-Ok-clause-refused g c =
-    let t = c.in-Ok.ensures.summed in
-    against_refuses g.R.Runner.queries g.met.R.Runner.laws (map (λ (f : Bor (List ℕ)). f.now) c.args.chain.now) (g.R.Runner.log c.args.runner.now) (g.R.Runner.log c.audit_files.new.runner)
-    c.in-Ok.auditor.state t c.args.project.now c.end_against.result (c.end_against.ensures.gives t.sessions t.sums)
+    let e = c.end_against.ensures.gives t.sessions t.sums in
+    record {
+      accepted = against_accepts g.R.Runner.queries g.met.R.Runner.laws files old new c.in-Ok.auditor.state t c.args.project.now c.end_against.result e;
+      profile = against_last g.R.Runner.queries g.met.R.Runner.laws files old new c.in-Ok.auditor.state t c.args.project.now c.end_against.result e;
+      right = against_right g.R.Runner.queries g.met.R.Runner.laws files old new c.in-Ok.auditor.state t c.args.project.now c.end_against.result e;
+      means = against_means g.R.Runner.queries g.met.R.Runner.laws files old new c.in-Ok.auditor.state t c.args.project.now c.end_against.result e;
+      refused = against_refuses g.R.Runner.queries g.met.R.Runner.laws files old new c.in-Ok.auditor.state t c.args.project.now c.end_against.result e;
+      log = against_logs g.R.Runner.queries g.met.R.Runner.laws files old new c.in-Ok.auditor.state t c.args.project.now c.end_against.result e;
+      log_refused = against_logs_refused g.R.Runner.queries g.met.R.Runner.laws files old new c.in-Ok.auditor.state t c.args.project.now c.end_against.result e;
+    }
 
 pub returns-in-Err-clause-refused : goal.returns-in-Err-clause-refused
 returns-in-Err-clause-refused g c =
@@ -40,18 +27,6 @@ returns-in-Err-clause-refused g c =
     let old = g.R.Runner.log c.args.runner.now in
     let new = g.R.Runner.log c.audit_files.new.runner in
     behind_against g.R.Runner.queries files old new c.args.project.now c.in-Err.fault (behind g.R.Runner.queries files old new c.in-Err.fault c.in-Err.ensures.refused)
-
-pub returns-in-Ok-clause-log : goal.returns-in-Ok-clause-log
-returns-in-Ok-clause-log g c =
-    let t = c.in-Ok.ensures.summed in
-    against_logs g.R.Runner.queries g.met.R.Runner.laws (map (λ (f : Bor (List ℕ)). f.now) c.args.chain.now) (g.R.Runner.log c.args.runner.now) (g.R.Runner.log c.audit_files.new.runner)
-    c.in-Ok.auditor.state t c.args.project.now c.end_against.result (c.end_against.ensures.gives t.sessions t.sums)
-
-pub returns-in-Ok-clause-log_refused : goal.returns-in-Ok-clause-log_refused
-returns-in-Ok-clause-log_refused g c =
-    let t = c.in-Ok.ensures.summed in
-    against_logs_refused g.R.Runner.queries g.met.R.Runner.laws (map (λ (f : Bor (List ℕ)). f.now) c.args.chain.now) (g.R.Runner.log c.args.runner.now) (g.R.Runner.log c.audit_files.new.runner)
-    c.in-Ok.auditor.state t c.args.project.now c.end_against.result (c.end_against.ensures.gives t.sessions t.sums)
 
 pub returns-in-Err-clause-log_refused : goal.returns-in-Err-clause-log_refused
 returns-in-Err-clause-log_refused g c =

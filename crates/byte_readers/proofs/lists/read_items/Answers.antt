@@ -1,7 +1,8 @@
 use Rattle.std.proofs.Common.{refl, map}
 use Rattle.std.proofs.lemmas.Result.{err_from_is_err_and}
+use Rattle.std.proofs.lemmas.List.{map_push}
 use Rattle.byte_readers.specs.Reading.{any}
-use Rattle.byte_readers.proofs.Loop.{goes_on, ends, is_done, one_more}
+use Rattle.byte_readers.proofs.Loop.{goes_on, ends, is_done}
 use Rattle.byte_readers.proofs.lists.read_items.Goals as goal
 
 pub returns-in_err-item : goal.returns-in_err-item
@@ -11,7 +12,7 @@ returns-in_err-item g c =
 
 pub loop-preserved : goal.loop-preserved
 loop-preserved g c =
-    rw (c.in_ok-push.ensures.items, one_more g.F.Format.view.one c.loop.items.items c.in_ok-item.item)
+    rw (c.in_ok-push.ensures.items, map_push g.F.Format.view.one c.loop.items.items c.in_ok-item.item)
     (goes_on g.F.Format.reading any (map g.F.Format.view.one c.loop.items.items) c.args.count c.loop.counter c.loop.rest.now (g.F.Format.view.one c.in_ok-item.item) c.in_ok-item.after.now _ c.loop-test.true c.in_ok-item.ensures refl c.loop.invariant)
 
 pub returns : goal.returns

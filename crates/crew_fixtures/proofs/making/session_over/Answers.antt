@@ -1,10 +1,9 @@
 use Rattle.std.proofs.Common.{ap, length, sym, subst, ◌∙◌}
 use Rattle.query_rules.specs.Queries.{queries}
-use Rattle.sessions.specs.Sessions.{SessionValue, session_in}
+use Rattle.sessions.specs.Sessions.{SessionValue, session_in, many_of}
 use Rattle.sessions.specs.Spelling.{digest_of}
 use Rattle.sessions.specs.declared.mark.Mark.TheVariants.{Executed, Green}
-use Rattle.driver.specs.Sessions.{IsSessionOf}
-use Rattle.crew_fixtures.specs.Made.{many_of}
+use Rattle.mini_java.specs.Sessions.{IsSessionOf}
 use Rattle.crew_fixtures.proofs.making.session_over.Goals as goal
 
 pub returns-in_ok-share-in-Ok : goal.returns-in_ok-share-in-Ok

@@ -2,7 +2,7 @@ use Rattle.std.proofs.Common.{None, subst}
 use Rattle.recorder.specs.Projects.{Project}
 use Rattle.query_rules.specs.Queries.{queries}
 use Rattle.sessions.specs.Terms.{first_terms}
-use Rattle.driver.specs.Sessions.{IsSessionOf}
+use Rattle.mini_java.specs.Sessions.{IsSessionOf}
 use Rattle.crew_fixtures.proofs.runs.digest_by.Goals as goal
 
 pub returns-in-Ok : goal.returns-in-Ok

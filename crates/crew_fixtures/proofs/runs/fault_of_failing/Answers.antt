@@ -2,7 +2,7 @@ use Rattle.std.proofs.Common.{ℕ, None, Ok, subst}
 use Rattle.recorder.specs.Projects.{Project}
 use Rattle.query_rules.specs.Queries.{queries}
 use Rattle.sessions.specs.Terms.{first_terms}
-use Rattle.driver.specs.Sessions.{DriveGives}
+use Rattle.mini_java.specs.Sessions.{DriveGives}
 use Rattle.crew_fixtures.proofs.runs.fault_of_failing.Goals as goal
 
 pub returns-in-Ok : goal.returns-in-Ok

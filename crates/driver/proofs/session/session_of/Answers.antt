@@ -1,7 +1,7 @@
 use Rattle.std.proofs.Common.{length, refl, sym, ap, ◌∙◌}
 use Rattle.std.proofs.lemmas.List.{length-map}
 use Rattle.std.specs.Prelude.{vec_len}
-use Rattle.job_table.specs.Kept.{event_of}
+use Rattle.shared_table.specs.Kept.{event_of}
 use Rattle.driver.specs.declared.reports.Reports.{Reports}
 use Rattle.driver.proofs.SessionRules.{session_of}
 use Rattle.driver.proofs.session.session_of.Goals as goal

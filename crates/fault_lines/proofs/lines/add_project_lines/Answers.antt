@@ -6,8 +6,8 @@ use Rattle.fault_lines.proofs.lines.add_project_lines.Goals as goal
 pub loop-fault-preserved : goal.loop-fault-preserved
 loop-fault-preserved c = λ before h.
     rw c.in_ok-push.ensures.items
-    (pairs_more (IsLineOf c.args.texts.now) of_project before c.args.faults.now c.loop-fault.fault-index c.fault-item.result c.loop-fault.lines.items c.project_line.result
-    c.loop-fault-test.true c.fault-item.is (c.loop-fault.invariant before h) c.project_line.ensures)
+    (pairs_more (IsLineOf c.args.texts.now) of_project before c.args.faults.now c.loop-fault.fault-index c.fault-item.result c.loop-fault.lines.items c.in_ok-project_line.field-0
+    c.loop-fault-test.true c.fault-item.is (c.loop-fault.invariant before h) c.in_ok-project_line.ensures)
 
 pub returns : goal.returns
 returns c = λ before h.

@@ -2,7 +2,7 @@ use Rattle.std.proofs.Common.{◌∙◌, ℕ, List, Some, cond, sym, ap}
 use Rattle.std.specs.BTreeMap.{get}
 use Rattle.std.specs.Ordering.{nat_cmp, is_eq}
 use Rattle.std.specs.Cmp.Lexicographic.{slice_cmp}
-use Rattle.file_index.proofs.FirstMethods.{name_added}
+use Rattle.mj_tree.proofs.Positions.{name_added}
 use Rattle.file_index.proofs.methods.add_method.Goals as goal
 
 pub returns-in_ok-insert : goal.returns-in_ok-insert

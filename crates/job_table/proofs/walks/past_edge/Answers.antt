@@ -1,13 +1,10 @@
-use Rattle.std.proofs.Common.{◌≡◌, Bool, true, false, sym, ap, ◌∙◌}
+use Rattle.std.proofs.Common.{sym, ap, ◌∙◌, true≢false}
 use Rattle.std.specs.Arc.{arc_value}
 use Rattle.fingerprint.specs.Prints.{print_of}
 use Rattle.graph_rules.specs.Steps.{Unchanged, Changed}
 use Rattle.key_states.specs.Nodes.{status_at}
 use Rattle.job_table.proofs.WalkRules.{edge_with, edge_same, edge_other}
 use Rattle.job_table.proofs.walks.past_edge.Goals as goal
-
-not_both : (b : Bool) → b ≡ true → b ≡ false → ⊥
-not_both b t f = cc
 
 pub returns-then-same_print : goal.returns-then-same_print
 returns-then-same_print c =
@@ -29,4 +26,4 @@ returns-else-same_print c =
     let there = ap print_of c.deref-2.ensures in
     let status = status_at c.args.inputs.now c.args.nodes.now in
     edge_with c.args.past.now c.records.ensures.session c.args.at r c.requires.place is status Changed
-    (edge_other (print_of r.value) (arc_value c.in-Some.sealed.now) (status r.key) done (λ e. not_both _ (c.same_print.ensures.1 (here ∙ (e ∙ sym there))) c.if-same_print.false))
+    (edge_other (print_of r.value) (arc_value c.in-Some.sealed.now) (status r.key) done (λ e. true≢false (sym (c.same_print.ensures.1 (here ∙ (e ∙ sym there))) ∙ c.if-same_print.false)))

@@ -1,6 +1,6 @@
 use Rattle.std.proofs.Common.{drop, ◌↔◌}
 use Rattle.std.specs.List.{AllByRecursion}
-use Rattle.recorder.specs.Backed.{rank}
+use Rattle.item_ids.specs.Inputs.{rank}
 use Rattle.key_states.specs.PendingNodes.{IsAboveAt}
 use Rattle.key_states.proofs.node_map.are_above.Given as goal
 

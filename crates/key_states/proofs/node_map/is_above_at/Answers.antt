@@ -1,7 +1,7 @@
 use Rattle.std.proofs.Common.{◌≡◌, ◌∙◌, ℕ, ◌≤◌, List, slice_get, Some, false, ap, sym, arith, refl}
 use Rattle.std.specs.Prelude.{IsTrue}
 use Rattle.item_ids.specs.Kinds.{rank_of}
-use Rattle.recorder.specs.Backed.{rank}
+use Rattle.item_ids.specs.Inputs.{rank}
 use Rattle.graph_rules.specs.Steps.{IsHeldBy}
 use Rattle.key_states.specs.Nodes.{Node, status_of}
 use Rattle.key_states.specs.PendingNodes.{IsAboveAt}

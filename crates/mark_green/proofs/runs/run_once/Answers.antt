@@ -1,6 +1,6 @@
 use Rattle.std.proofs.Common.{◌≡◌, ap, ◌∙◌, sym, subst, None, rules}
 use Rattle.item_ids.specs.Kinds.{rank_of}
-use Rattle.recorder.specs.Backed.{rank}
+use Rattle.item_ids.specs.Inputs.{rank}
 use Rattle.mark_green.specs.Moves.{Moves}
 use Rattle.std.specs.Prelude.{IfOk}
 use Rattle.mark_green.specs.Leaves.{StaysTold, AreTold}

@@ -1,6 +1,6 @@
 use Rattle.std.proofs.Common.{◌≡◌, take}
 use Rattle.mj_project.proofs.RepeatLemmas.{HasNames}
-use Rattle.member_queries.specs.Facts.{first_names}
+use Rattle.member_queries.specs.FirstNames.{first_names}
 use Rattle.member_queries.proofs.diags.first_names.Given as goal
 
 abbrev pub invariant-loop-name : goal.invariant-loop-name

@@ -1,7 +1,8 @@
 use Rattle.std.proofs.Common.{◌∙◌, sym, refl, arith}
+use Rattle.std.proofs.lemmas.List.{map-id}
 use Rattle.mj_members.specs.Classes.{field_member_view}
 use Rattle.mj_members.specs.Rows.{field_rows}
-use Rattle.mj_members.proofs.Rows.{row_kept, row_added, all_rows, map_same}
+use Rattle.mj_members.proofs.Rows.{row_kept, row_added, all_rows}
 use Rattle.member_queries.proofs.members.add_fields.Goals as goal
 use Rattle.member_queries.proofs.members.add_fields.Goals.{then-not-contains_key+in_ok-insert, else-not-contains_key}
 
@@ -22,4 +23,4 @@ loop-field-preserved c = elim c.if-not-contains_key.branch [
 pub returns : goal.returns
 returns c =
     all_rows field_member_view (λ f. f) (λ f. f.name) c.fields-field-items.result.now _ (field_rows c.args.rows.now.entries) c.loop-field.rows.entries c.class-owner.result.now _ c.loop-field.field-index
-    (omega arith) c.loop-field.invariant c.class-owner.ensures (map_same c.fields-field-items.result.now ∙ c.fields-field-items.ensures)
+    (omega arith) c.loop-field.invariant c.class-owner.ensures (map-id c.fields-field-items.result.now ∙ c.fields-field-items.ensures)

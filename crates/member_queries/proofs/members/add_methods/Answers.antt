@@ -1,5 +1,6 @@
 use Rattle.std.proofs.Common.{◌∙◌, sym, refl, arith}
-use Rattle.mj_members.proofs.Rows.{row_kept, row_added, all_rows, map_same}
+use Rattle.std.proofs.lemmas.List.{map-id}
+use Rattle.mj_members.proofs.Rows.{row_kept, row_added, all_rows}
 use Rattle.member_queries.specs.MemberTables.{member_name_view, name_rows}
 use Rattle.member_queries.proofs.members.add_methods.Goals as goal
 use Rattle.member_queries.proofs.members.add_methods.Goals.{then-not-contains_key+in_ok-insert, else-not-contains_key}
@@ -21,4 +22,4 @@ loop-name-preserved c = elim c.if-not-contains_key.branch [
 pub returns : goal.returns
 returns c =
     all_rows member_name_view (λ n. n) (λ n. n) c.methods-name-items.result.now _ (name_rows c.args.rows.now.entries) c.loop-name.rows.entries c.class-owner.result.now _ c.loop-name.name-index
-    (omega arith) c.loop-name.invariant c.class-owner.ensures (map_same c.methods-name-items.result.now ∙ c.methods-name-items.ensures)
+    (omega arith) c.loop-name.invariant c.class-owner.ensures (map-id c.methods-name-items.result.now ∙ c.methods-name-items.ensures)

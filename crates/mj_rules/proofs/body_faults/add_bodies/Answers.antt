@@ -1,34 +1,19 @@
-use Rattle.std.proofs.Common.{◌<◌, ◌∙◌, List, ℕ, length, map, arith}
-use Rattle.std.proofs.lemmas.List.{length-map}
+use Rattle.std.proofs.Common.{◌<◌, ◌∙◌, length, arith}
 use Rattle.mj_tree.specs.Trees.{Method}
 use Rattle.mj_tree.specs.Views.{method_view}
-use Rattle.mj_project.specs.Repeats.{repeats}
 use Rattle.mj_classes.specs.Index.{declared_in}
 use Rattle.mj_rules.specs.FaultLists.{body_faults_of}
-use Rattle.mj_project.proofs.Listed.{map_at}
-use Rattle.mj_rules.proofs.Steps.{each_step, flag_read, flag_within, item_at}
+use Rattle.mj_rules.proofs.Steps.{flag_of_each, named_step}
 use Rattle.mj_rules.proofs.body_faults.add_bodies.Goals as goal
-
-abbrev names : List Method → List (List ℕ)
-names ms = map (λ (m : Method). m.name) ms
 
 pub bounds-flags-number : goal.bounds-flags-number
 bounds-flags-number c =
-    let views = length-map c.args.methods.now method_view in
-    let same = length-map (map method_view c.args.methods.now) (λ (m : Method). m.name) in
-    let within : c.loop-number.number < length (names (map method_view c.args.methods.now)) = omega arith in
-    flag_within (names (map method_view c.args.methods.now)) c.as_slice-flags.result.now c.loop-number.number (c.as_slice-flags.ensures.value ∙ c.in_ok-repeated.ensures) within
+    let within : c.loop-number.number < length c.args.methods.now = omega arith in
+    flag_of_each method_view (λ (m : Method). m.name) c.args.methods.now c.as_slice-flags.result.now c.loop-number.number (c.as_slice-flags.ensures.value ∙ c.in_ok-repeated.ensures) within
 
 pub loop-number-preserved : goal.loop-number-preserved
 loop-number-preserved c =
     let within : c.loop-number.number < length c.args.methods.now = omega arith in
-    let views = length-map c.args.methods.now method_view in
-    let same = length-map (map method_view c.args.methods.now) (λ (m : Method). m.name) in
-    let named : c.loop-number.number < length (names (map method_view c.args.methods.now)) = omega arith in
-    let flags = c.as_slice-flags.ensures.value ∙ c.in_ok-repeated.ensures in
-    each_step (body_faults_of (declared_in c.args.world.now.declarations.now) c.args.class.now) (map method_view c.args.methods.now) (repeats (names (map method_view c.args.methods.now))) c.loop-number.number (method_view c.index-methods-number.result) _
-    c.loop-number.faults.items c.add_body.new.faults.items
-    (map_at method_view c.args.methods.now c.loop-number.number c.index-methods-number.result (item_at c.args.methods.now c.loop-number.number c.index-methods-number.result within c.index-methods-number.is))
-    (flag_read (repeats (names (map method_view c.args.methods.now))) c.as_slice-flags.result.now c.loop-number.number _ flags
-    (flag_within (names (map method_view c.args.methods.now)) c.as_slice-flags.result.now c.loop-number.number flags named))
-    c.in_ok-add_body.ensures ∙ c.loop-number.invariant
+    named_step method_view (λ (m : Method). m.name) (body_faults_of (declared_in c.args.world.now.declarations.now) c.args.class.now) c.args.methods.now c.as_slice-flags.result.now c.loop-number.number c.index-methods-number.result c.loop-number.faults.items c.add_body.new.faults.items
+    (c.as_slice-flags.ensures.value ∙ c.in_ok-repeated.ensures) within c.index-methods-number.is c.in_ok-add_body.ensures
+    ∙ c.loop-number.invariant

@@ -3,14 +3,14 @@ use Rattle.std.proofs.lemmas.Option.{none-some}
 use Rattle.std.proofs.lemmas.List.{take_more, map-append}
 use Rattle.std.proofs.lemmas.List.Elements.{All-push}
 use Rattle.mj_tree.specs.Trees.{Name}
+use Rattle.mj_tree.proofs.Positions.{read_at}
 use Rattle.mj_answer.specs.AnswerValues.{ClassAnswerValue}
 use Rattle.mj_classes.specs.Declarations.{decl}
 use Rattle.mj_members.specs.Classes.{class_ref_view}
 use Rattle.mj_classes.specs.Index.{declared_in}
+use Rattle.mj_classes.proofs.Climb.{decl_name}
 use Rattle.mj_rules.specs.Rules.{IsAnswerFor}
 use Rattle.mj_project.proofs.Listed.{contains_at}
-use Rattle.mj_rules.proofs.Steps.{item_at}
-use Rattle.mj_rules.proofs.Overriding.{decl-name}
 use Rattle.mj_rules.proofs.Answering.{is_named}
 use Rattle.mj_rules.proofs.Composing.{class_answers}
 use Rattle.mj_rules.proofs.checker.class_answers.Goals as goal
@@ -19,7 +19,7 @@ pub unreachable-requires : goal.unreachable-requires
 unreachable-requires c =
     let cs = declared_in c.args.declarations.now in
     let within : c.loop-name.name-index < length c.deref-name-items.result.now = omega arith in
-    let stands = contains_at c.deref-name-items.result.now c.loop-name.name-index c.name-item.result (item_at c.deref-name-items.result.now c.loop-name.name-index c.name-item.result within c.name-item.is) in
+    let stands = contains_at c.deref-name-items.result.now c.loop-name.name-index c.name-item.result (read_at c.deref-name-items.result.now c.loop-name.name-index c.name-item.result within c.name-item.is) in
     let named = (c.in_ok-names.ensures.same c.name-item.result).0 (rw c.deref-name-items.ensures.value at stands) in
     let k = is_named cs c.name-item.result (decl cs c.name-item.result) refl named in
     none-some k.0 (c.in_default.ensures ∙ k.1)
@@ -28,14 +28,14 @@ pub class_answer-requires-clause-first : goal.class_answer-requires-clause-first
 class_answer-requires-clause-first c =
     let cs = declared_in c.args.declarations.now in
     let here : decl cs c.name-item.result ≡ Some (class_ref_view c.in-Some.class) = sym c.in-Some.ensures in
-    ap (decl cs) (decl-name cs c.name-item.result (class_ref_view c.in-Some.class) here) ∙ here
+    ap (decl cs) (decl_name cs c.name-item.result (class_ref_view c.in-Some.class) here) ∙ here
 
 pub loop-name-preserved : goal.loop-name-preserved
 loop-name-preserved c =
     let cs = declared_in c.args.declarations.now in
     let within : c.loop-name.name-index < length c.deref-name-items.result.now = omega arith in
     let here : decl cs c.name-item.result ≡ Some (class_ref_view c.in-Some.class) = sym c.in-Some.ensures in
-    let name : c.in_ok-class_answer.field-0.name ≡ c.name-item.result = c.in_ok-class_answer.ensures.name ∙ decl-name cs c.name-item.result (class_ref_view c.in-Some.class) here in
+    let name : c.in_ok-class_answer.field-0.name ≡ c.name-item.result = c.in_ok-class_answer.ensures.name ∙ decl_name cs c.name-item.result (class_ref_view c.in-Some.class) here in
     let more = take_more c.deref-name-items.result.now c.loop-name.name-index c.name-item.result within ∙ ap (λ (n : Name). take c.loop-name.name-index c.deref-name-items.result.now ++ n ∷ []) (sym c.name-item.is) in
     record {
       named =

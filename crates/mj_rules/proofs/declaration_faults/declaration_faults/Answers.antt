@@ -10,7 +10,7 @@ use Rattle.mj_members.specs.Classes.{class_ref_view, classes_view}
 use Rattle.mj_classes.specs.Classes.{end_view}
 use Rattle.mj_classes.specs.Index.{declared_in}
 use Rattle.mj_project.specs.Repeats.{repeats}
-use Rattle.mj_rules.specs.Tables.{behind}
+use Rattle.mj_rules.specs.Tables.{without_first}
 use Rattle.mj_rules.specs.FaultLists.{superclass_faults, chain_faults, is_cycle, when_fault, field_faults, method_faults_of, nearest_sig, rest_of, each_numbered, field_names, method_names, declaration_faults}
 use Rattle.mj_rules.proofs.Declaring.{methods_behind, faults_at_end}
 use Rattle.mj_rules.proofs.Steps.{four_parts}
@@ -27,8 +27,8 @@ returns c =
     let fields = c.in_ok-add_fields.ensures ∙ ap (λ (fs : List Field). c.add_chain_fault.new.faults.items ++ each_numbered (field_faults cs) 0 fs (repeats (map (λ (f : Field). f.name) fs))) c.fields.ensures in
     let along : List ClassDecl = classes_view c.deref.result.now in
     let methods = c.in_ok-add_method_faults.ensures
-    ∙ (ap (λ (x : Name). c.add_fields.new.faults.items ++ each_numbered (method_faults_of c.args.profile cs (nearest_sig (behind x along))) 0 (map method_view c.methods.result.now) (repeats (map (λ (m : Method). m.name) (map method_view c.methods.result.now)))) c.name.ensures
-    ∙ (ap (λ (ms : List Method). c.add_fields.new.faults.items ++ each_numbered (method_faults_of c.args.profile cs (nearest_sig (behind k.name along))) 0 ms (repeats (map (λ (m : Method). m.name) ms))) c.methods.ensures
+    ∙ (ap (λ (x : Name). c.add_fields.new.faults.items ++ each_numbered (method_faults_of c.args.profile cs (nearest_sig (without_first x along))) 0 (map method_view c.methods.result.now) (repeats (map (λ (m : Method). m.name) (map method_view c.methods.result.now)))) c.name.ensures
+    ∙ (ap (λ (ms : List Method). c.add_fields.new.faults.items ++ each_numbered (method_faults_of c.args.profile cs (nearest_sig (without_first k.name along))) 0 ms (repeats (map (λ (m : Method). m.name) ms))) c.methods.ensures
     ∙ ap (λ ds. c.add_fields.new.faults.items ++ ds) (methods_behind c.args.profile cs k.name end along c.requires.end members k.methods (repeats (method_names k))))) in
     four_parts (superclass_faults cs k.superclass) (chain_faults (chain_of cs k.name)) (each_numbered (field_faults cs) 0 k.fields (repeats (field_names k)))
     (each_numbered (method_faults_of c.args.profile cs (nearest_sig (rest_of cs k.name))) 0 k.methods (repeats (method_names k)))

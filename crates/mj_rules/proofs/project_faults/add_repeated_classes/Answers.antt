@@ -1,34 +1,34 @@
-use Rattle.std.proofs.Common.{◌<◌, ◌++◌, get_or, false, ◌∙◌, ℕ, length, slice_get, [], ap₂, sym, arith, if◌then◌else◌}
-use Rattle.std.proofs.lemmas.List.{length-map}
-use Rattle.mj_members.specs.Classes.{class_ref_view, classes_view}
+use Rattle.std.proofs.Common.{◌≡◌, ◌<◌, ◌++◌, get_or, true, false, ◌∙◌, ℕ, length, slice_get, ap, ap₂, sym, append-nil, arith}
+use Rattle.mj_members.specs.Classes.{class_ref_view}
 use Rattle.mj_members.specs.Declarations.{ClassDecl}
 use Rattle.mj_project.specs.Projects.{sources_view}
-use Rattle.mj_project.specs.Repeats.{repeats}
-use Rattle.mj_rules.specs.FaultLists.{class_names, repeated_class, repeated_class_faults}
-use Rattle.mj_project.proofs.Listed.{map_at}
-use Rattle.mj_rules.proofs.Steps.{each_step, flag_read, flag_within, item_at, class_file, class_number}
+use Rattle.mj_rules.specs.FaultLists.{repeated_class, repeated_class_faults}
+use Rattle.mj_rules.proofs.Steps.{flag_is, flag_of_each, named_step, class_file, class_number}
 use Rattle.mj_rules.proofs.project_faults.add_repeated_classes.Goals as goal
+use Rattle.mj_rules.proofs.project_faults.add_repeated_classes.Goals.{then-flags-number+in_ok-add_repeated_class, else-flags-number}
 
 pub bounds-flags-number : goal.bounds-flags-number
 bounds-flags-number c =
-    let views = length-map c.args.classes.now class_ref_view in
-    let same = length-map (classes_view c.args.classes.now) (λ (k : ClassDecl). k.name) in
-    let within : c.loop-number.number < length (class_names (classes_view c.args.classes.now)) = omega arith in
-    flag_within (class_names (classes_view c.args.classes.now)) c.as_slice-flags.result.now c.loop-number.number (c.as_slice-flags.ensures.value ∙ c.in_ok-repeated.ensures) within
+    let within : c.loop-number.number < length c.args.classes.now = omega arith in
+    flag_of_each class_ref_view (λ (k : ClassDecl). k.name) c.args.classes.now c.as_slice-flags.result.now c.loop-number.number (c.as_slice-flags.ensures.value ∙ c.in_ok-repeated.ensures) within
 
 pub loop-number-preserved : goal.loop-number-preserved
 loop-number-preserved c =
     let within : c.loop-number.number < length c.args.classes.now = omega arith in
-    let views = length-map c.args.classes.now class_ref_view in
-    let same = length-map (classes_view c.args.classes.now) (λ (k : ClassDecl). k.name) in
-    let named : c.loop-number.number < length (class_names (classes_view c.args.classes.now)) = omega arith in
-    let flags = c.as_slice-flags.ensures.value ∙ c.in_ok-repeated.ensures in
+    let flag = get_or c.as_slice-flags.result.now c.loop-number.number false in
     let class = c.index-classes-number.result in
-    each_step (repeated_class_faults (sources_view c.args.files.now)) (classes_view c.args.classes.now) (repeats (class_names (classes_view c.args.classes.now))) c.loop-number.number (class_ref_view class) (get_or c.as_slice-flags.result.now c.loop-number.number false)
-    c.loop-number.faults.items c.add_repeated_class.new.faults.items
-    (map_at class_ref_view c.args.classes.now c.loop-number.number class (item_at c.args.classes.now c.loop-number.number class within c.index-classes-number.is))
-    (flag_read (repeats (class_names (classes_view c.args.classes.now))) c.as_slice-flags.result.now c.loop-number.number false flags
-    (flag_within (class_names (classes_view c.args.classes.now)) c.as_slice-flags.result.now c.loop-number.number flags named))
-    (c.in_ok-add_repeated_class.ensures
-    ∙ ap₂ (λ (f n : ℕ). c.loop-number.faults.items ++ (if get_or c.as_slice-flags.result.now c.loop-number.number false then repeated_class (slice_get (sources_view c.args.files.now) f) n else [])) (sym (class_file class)) (sym (class_number class)))
+    let faults = repeated_class_faults (sources_view c.args.files.now) in
+    let added : c.if-flags-number.faults.items ≡ c.loop-number.faults.items ++ faults c.loop-number.number flag (class_ref_view class) =
+    elim c.if-flags-number.branch [
+      | then-flags-number+in_ok-add_repeated_class w ↦
+          flag_is (λ b. faults c.loop-number.number b (class_ref_view class)) c.loop-number.faults.items c.if-flags-number.faults.items flag true w.if-flags-number.true
+          (ap (λ v. v.items) w.faults-is
+          ∙ (w.in_ok-add_repeated_class.ensures
+          ∙ ap₂ (λ (f n : ℕ). c.loop-number.faults.items ++ repeated_class (slice_get (sources_view c.args.files.now) f) n) (sym (class_file class)) (sym (class_number class))))
+      | else-flags-number w ↦
+          flag_is (λ b. faults c.loop-number.number b (class_ref_view class)) c.loop-number.faults.items c.if-flags-number.faults.items flag false w.if-flags-number.false
+          (ap (λ v. v.items) w.faults-is ∙ sym (append-nil c.loop-number.faults.items))
+    ] in
+    named_step class_ref_view (λ (k : ClassDecl). k.name) faults c.args.classes.now c.as_slice-flags.result.now c.loop-number.number class c.loop-number.faults.items c.if-flags-number.faults.items
+    (c.as_slice-flags.ensures.value ∙ c.in_ok-repeated.ensures) within c.index-classes-number.is added
     ∙ c.loop-number.invariant

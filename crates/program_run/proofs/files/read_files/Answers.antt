@@ -5,7 +5,6 @@ use Rattle.program_run.proofs.Failures.{one_unread, told_as}
 use Rattle.program_run.proofs.Taking.{one_of}
 use Rattle.program_run.proofs.files.read_files.Goals as goal
 
--- src/files.rt:23:20
 pub returns-in_err-read_file-clause-failed : goal.returns-in_err-read_file-clause-failed
 returns-in_err-read_file-clause-failed g c =
     let at = c.loop-name in

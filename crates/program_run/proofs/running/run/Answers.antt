@@ -4,11 +4,9 @@ use Rattle.program_run.proofs.Believed.{believed}
 use Rattle.program_run.proofs.running.run.Goals as goal
 use Rattle.program_run.proofs.running.run.Goals.{in-Ok, in-Err}
 
--- src/running.rt:22:1
 pub returns-clause-status : goal.returns-clause-status
 returns-clause-status g c = rw c.number.ensures (is_status c.match-report_of.status)
 
--- src/running.rt:22:1
 pub returns-clause-answer : goal.returns-clause-answer
 returns-clause-answer g c = rw c.number.ensures (elim c.match-report_of.branch [
   | in-Ok w ↦ (rw (w.out-is, w.err-is, w.status-is) (prints _ _ _ _ _ _ _ _ w.in-Ok.ensures.answer w.deliver-status.ensures))

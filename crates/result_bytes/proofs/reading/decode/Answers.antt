@@ -5,15 +5,15 @@ use Rattle.byte_readers.specs.Lawful.{IsBytes}
 use Rattle.result_bytes.specs.declared.refusal.Refusal.{Refusal}
 use Rattle.result_bytes.specs.declared.refusal.Refusal.TheVariants.{Short, Trailing, NotCanonical, WrongKind, OutOfMemory}
 use Rattle.result_bytes.specs.declared.value.Value.{Value}
-use Rattle.result_bytes.specs.Values.{IsValue, canon, kind_of_value, decoding, IsUnlessMemory}
+use Rattle.result_bytes.specs.Values.{IsValue, canon, kind_of_value, decoding, IsDecodedUnlessMemory}
 use Rattle.result_bytes.proofs.ValueLaws.{decoded_takes, decoded_at}
 use Rattle.result_bytes.proofs.reading.decode.Goals as goal
 
-found_in : (kind : Kind) (bytes : List ℕ) (r : Result Value Refusal) → IsBytes bytes → IsUnlessMemory r (decoding kind bytes) → IfOk r (λ v. IsValue v × (kind_of_value v ≡ kind) × (bytes ≡ canon v))
+found_in : (kind : Kind) (bytes : List ℕ) (r : Result Value Refusal) → IsBytes bytes → IsDecodedUnlessMemory r (decoding kind bytes) → IfOk r (λ v. IsValue v × (kind_of_value v ≡ kind) × (bytes ≡ canon v))
 found_in kind bytes (Ok v) fits is = decoded_takes kind bytes v fits (sym is)
 found_in kind bytes (Err e) fits is = tt
 
-only_in : (r a b : Result Value Refusal) → a ≡ b → IsUnlessMemory r a → IsUnlessMemory r b
+only_in : (r a b : Result Value Refusal) → a ≡ b → IsDecodedUnlessMemory r a → IsDecodedUnlessMemory r b
 only_in (Ok v) a b e is = is ∙ e
 only_in (Err OutOfMemory) a b e is = tt
 only_in (Err Short) a b e is = is ∙ e

@@ -1,8 +1,8 @@
 use Rattle.std.proofs.Common.{◌∙◌, ◌<◌, ◌+◌, ◌≡◌, ℕ, List, ◌++◌, Some, ap, sym, subst}
 use Rattle.std.specs.List.{AllByRecursion}
 use Rattle.std.specs.Option.{option_copied}
-use Rattle.sessions.specs.Sessions.{rank}
-use Rattle.sessions.proofs.Lists.{all_push}
+use Rattle.item_ids.specs.Inputs.{rank}
+use Rattle.item_ids.proofs.Lists.{all_push}
 use Rattle.session_causes.specs.declared.cause.Why.{Why}
 use Rattle.session_causes.specs.Causes.{IsRightWhy, IsTrail}
 use Rattle.session_causes.proofs.TrailRules.{LeadsTo, leads_more, next_lower, next_there, ranks_left, trail_ends}

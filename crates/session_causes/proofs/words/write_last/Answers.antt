@@ -1,11 +1,11 @@
 use Rattle.std.proofs.Common.{codes, decimal, string_bytes}
 use Rattle.std.proofs.lemmas.Result.{on_ok_weaker}
-use Rattle.session_causes.specs.CauseTexts.{line_with}
+use Rattle.session_causes.specs.CauseTexts.{counts_line}
 use Rattle.session_causes.proofs.Added.{line_made}
 use Rattle.session_causes.proofs.words.write_last.Goals as goal
 
 pub returns : goal.returns
-unfolding line_with
+unfolding counts_line
 returns c =
     on_ok_weaker c.writeln.result
     (λ e. line_made (string_bytes c.args.text.now) (codes "session ") (decimal c.args.number) (codes ": ") (decimal c.args.inputs) (codes " inputs changed, ") (decimal c.args.executed)

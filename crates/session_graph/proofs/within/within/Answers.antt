@@ -1,7 +1,6 @@
 use Rattle.std.proofs.Common.{◌≡◌, ◌∙◌, ℕ, ◌<◌, ◌+◌, ◌-◌, Bool, true, false, List, length, set, sym, subst, ap, arith}
 use Rattle.std.specs.List.{AllByRecursion}
 use Rattle.std.proofs.lemmas.List.{get_or_read}
-use Rattle.session_graph.specs.Within.{edges_at}
 use Rattle.session_graph.specs.Flags.{with_flags}
 use Rattle.session_graph.proofs.Walk.{IsWalked, all_less, walk_begins, walk_step, walk_ends, edges_are, edges_less}
 use Rattle.session_graph.proofs.within.within.Goals as goal

@@ -1,5 +1,5 @@
 use Rattle.std.proofs.Common.{subst}
-use Rattle.table_fixtures.specs.Called.{Says}
+use Rattle.table_fixtures.specs.Called.{CallSays}
 use Rattle.table_fixtures.proofs.calls.says_of.Goals as goal
 
 pub returns : goal.returns
@@ -11,6 +11,6 @@ returns c =
     λ so. record {
       key = key;
       of_key = c.requires;
-      says = subst (λ said. Says saying.call saying.worker key said old new) (c.is_so.ensures.said so) c.in_ok-said.ensures;
+      says = subst (λ said. CallSays saying.call saying.worker key said old new) (c.is_so.ensures.said so) c.in_ok-said.ensures;
       events = c.is_so.ensures.events so;
     }

@@ -4,8 +4,10 @@ use Rattle.std.specs.BTreeMap.{get}
 use Rattle.std.specs.Ordering.{nat_cmp}
 use Rattle.std.specs.Cmp.Lexicographic.{slice_cmp}
 use Rattle.std.specs.Vec.Iter.{into_iter_items}
+use Rattle.std.proofs.lemmas.List.{nil_from_length}
+use Rattle.mj_tree.proofs.Positions.{or_nothing}
 use Rattle.text_queries.specs.Index.{first_file}
-use Rattle.text_queries.proofs.FirstRows.{row_more, no_row_more, nothing_left}
+use Rattle.text_queries.proofs.FirstRows.{row_more}
 use Rattle.text_queries.proofs.index.first_files.Goals as goal
 
 pub loop-row-preserved : goal.loop-row-preserved
@@ -28,7 +30,7 @@ pub returns : goal.returns
 returns c =
     let at = c.loop-row in
     let none = c.in-None.ensures.steps in
-    let empty : into_iter_items at.row-iterator ≡ [] = nothing_left _ (sym at.invariant.count ∙ none.0) in
+    let empty : into_iter_items at.row-iterator ≡ [] = nil_from_length _ (sym at.invariant.count ∙ none.0) in
     λ class.
-    sym (no_row_more (get (slice_cmp nat_cmp) at.files class))
+    or_nothing (get (slice_cmp nat_cmp) at.files class)
     ∙ (ap (λ rows. option_or (get (slice_cmp nat_cmp) at.files class) (first_file rows class)) (sym empty) ∙ at.invariant.said class)

@@ -1,4 +1,4 @@
-use Rattle.recorder.specs.Backed.{rank}
+use Rattle.item_ids.specs.Inputs.{rank}
 use Rattle.key_states.proofs.PendingRules.{above_by_pending, pending_inside}
 use Rattle.key_states.proofs.node_map.NodeMap.is_below.Goals as goal
 

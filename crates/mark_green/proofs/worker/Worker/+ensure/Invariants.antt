@@ -1,7 +1,8 @@
-use Rattle.std.proofs.Common.{◌≡◌, ◌+◌, ◌*◌}
-use Rattle.recorder.specs.Backed.{rank}
+use Rattle.std.proofs.Common.{◌+◌, ◌*◌}
+use Rattle.item_ids.specs.Inputs.{rank}
 use Rattle.sessions.specs.Sessions.{key_at}
-use Rattle.mark_green.specs.Leaves.{StaysTold, AreTold}
+use Rattle.mark_green.specs.Leaves.{AreTold}
+use Rattle.mark_green.specs.Workers.{IsSameWorker}
 use Rattle.mark_green.proofs.Held.{Held}
 use Rattle.mark_green.proofs.Turning.{Holds}
 use Rattle.mark_green.proofs.Working.{SoFar}
@@ -42,16 +43,12 @@ decreases-fetch g l = 9 * rank l.lacked + 8
 
 abbrev pub invariant-walk_edges-edges : goal.invariant-walk_edges-edges
 invariant-walk_edges-edges g l =
-    (l.self.store.ghost_name ≡ l.fn.self.store.ghost_name)
-    × (l.self.id ≡ l.fn.self.id)
+    IsSameWorker g.S.Store.told l.fn.self l.self
     × SoFar l.past l.fn.self.id l.key l.edges l.at-index (g.S.Store.table l.fn.self.store.now) (g.S.Store.table l.self.store.now)
-    × StaysTold (g.S.Store.told l.fn.self.store.now) (g.S.Store.told l.self.store.now)
 
 abbrev pub invariant-turns-again : goal.invariant-turns-again
 invariant-turns-again g l =
-    (l.self.store.ghost_name ≡ l.fn.self.store.ghost_name)
-    × (l.self.id ≡ l.fn.self.id)
+    IsSameWorker g.S.Store.told l.fn.self l.self
     × Holds l.fn.self.id l.key l.held (g.S.Store.table l.fn.self.store.now) (g.S.Store.table l.self.store.now)
     × Held l.held (g.S.Store.table l.self.store.now)
-    × StaysTold (g.S.Store.told l.fn.self.store.now) (g.S.Store.told l.self.store.now)
     × AreTold (g.S.Store.told l.self.store.now) l.held

@@ -1,0 +1,13 @@
+//! Where the next session of a cache begins.
+
+use session_cache::{Start, find_last, start_behind};
+use std::rt::Files;
+use std::test::Fail;
+
+/// Where the next session begins in the cache of this folder, by what is read of its last chain.
+pub(crate) fn find_start<R: Files + AllocGlobal>(rt: &R, dir: &str) -> Result<Start, Fail> {
+    match find_last(rt, dir) {
+        Ok(last) => Ok(start_behind(rt.alloc(), last)?),
+        Err(_) => Err(Fail::from("a start")),
+    }
+}

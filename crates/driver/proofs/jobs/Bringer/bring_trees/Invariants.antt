@@ -1,4 +1,0 @@
-use Rattle.driver.proofs.jobs.Bringer.bring_trees.Given as goal
-
-abbrev pub invariant-loop : goal.invariant-loop
-invariant-loop g l = Unit {0}

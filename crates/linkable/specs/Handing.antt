@@ -1,0 +1,43 @@
+-- Texts in the caller's buffers.
+use Rattle.std.specs.Prelude.{◌≡◌, ℕ, ◌≤◌, List, ◌++◌, length, drop}
+use Rattle.linkable.specs.Telling.{Telling}
+use Rattle.linkable.specs.declared.handing.Outcome.{Outcome}
+
+-- a text at the front of a buffer
+abbrev pub written : List ℕ → List ℕ → List ℕ
+written text buffer = text ++ drop (length text) buffer
+
+-- Each buffer has room for its text.
+abbrev pub HaveRoom : Telling → List ℕ → List ℕ → Type 0
+HaveRoom telling out err = (length telling.answer ≤ length out) × (length telling.notes ≤ length err)
+
+-- Both buffers are as they were.
+abbrev pub AreUntouched : List ℕ → List ℕ → List ℕ → List ℕ → Type 0
+AreUntouched out_old out_new err_old err_new = (out_new ≡ out_old) × (err_new ≡ err_old)
+
+-- Each text stands in its buffer, and the call ends with its status. If a buffer is too small neither
+-- does, and the call ends with 5. Either way the caller is told how long the texts are.
+pub record IsHandedOver (telling : Telling) (outcome : Outcome)
+    (out_old out_new err_old err_new : List ℕ) : Type 0 where
+  pub out_length : outcome.out_length ≡ length telling.answer
+  pub err_length : outcome.err_length ≡ length telling.notes
+  pub ends : HaveRoom telling out_old err_old → outcome.status ≡ telling.status
+  pub answer : HaveRoom telling out_old err_old → out_new ≡ written telling.answer out_old
+  pub notes : HaveRoom telling out_old err_old → err_new ≡ written telling.notes err_old
+  pub too_small : (HaveRoom telling out_old err_old → ⊥) → outcome.status ≡ 5
+  pub untouched : (HaveRoom telling out_old err_old → ⊥)
+      → AreUntouched out_old out_new err_old err_new
+
+-- What is told like this is handed over.
+pub record Writes (Tells : Telling → Type 0) (outcome : Outcome)
+    (out_old out_new err_old err_new : List ℕ) : Type 0 where
+  pub telling : Telling
+  pub tells : Tells telling
+  pub handed : IsHandedOver telling outcome out_old out_new err_old err_new
+
+-- There are no texts, and nothing is written.
+pub record IsOutOfMemory (outcome : Outcome)
+    (out_old out_new err_old err_new : List ℕ) : Type 0 where
+  pub out_length : outcome.out_length ≡ 0
+  pub err_length : outcome.err_length ≡ 0
+  pub untouched : AreUntouched out_old out_new err_old err_new

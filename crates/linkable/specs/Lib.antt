@@ -1,0 +1,4 @@
+pub mod Handing
+pub mod Scratching
+pub mod Telling
+pub mod Version

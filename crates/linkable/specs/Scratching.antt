@@ -1,0 +1,84 @@
+-- What is told of files in memory that are checked from scratch.
+use Rattle.std.specs.Prelude.{◌≡◌, ◌⊎◌, ℕ, Bool, true, false, List, ◌++◌, codes, decimal}
+use Rattle.diagnostic_lines.specs.Lines.{IsFaultText, is_clean}
+use Rattle.scratch_report.specs.Refusals.{refusal_words}
+use Rattle.mj_project.specs.Projects.{SourceFile, IsProject, Refuses}
+use Rattle.mj_project.specs.declared.project.ProjectFault.{ProjectFault}
+use Rattle.mj_rules.specs.AnswerWords.{AnswerValue, text_of}
+use Rattle.mj_rules.specs.Rules.{Rules}
+use Rattle.packed_files.specs.FlawWords.{flaw_line}
+use Rattle.packed_files.specs.Packing.{packed}
+use Rattle.packed_files.specs.Unpacking as no_files
+use Rattle.packed_files.specs.declared.flaws.UnpackFault.{UnpackFault}
+use Rattle.packed_files.specs.declared.flaws.UnpackFault.TheVariants as faults
+use Rattle.profiles.specs.Profiles.{profile_number}
+use Rattle.profiles.specs.declared.profile.Profile.{Profile}
+use Rattle.linkable.specs.Telling.{Telling, refusal}
+
+-- an answer without diagnostics is clean
+abbrev pub answer_status : Bool → ℕ
+answer_status true = 0
+answer_status false = 1
+
+-- The answer that the rules of the profile give a project: its text, and a line for each of its
+-- diagnostics with its place, with its sentence and its source line if they are wanted.
+pub record TellsAnswer (files : List SourceFile) (profile : Profile) (messages : Bool)
+    (told : Telling) : Type 0 where
+  pub project : IsProject files
+  pub answer : AnswerValue
+  pub rules : Rules profile files answer
+  pub text : told.answer ≡ text_of answer
+  pub lines : IsFaultText messages files answer told.notes
+  pub status : told.status ≡ answer_status (is_clean answer)
+
+-- Why the files are no project.
+pub record TellsNoProject (files : List SourceFile) (told : Telling) : Type 0 where
+  pub fault : ProjectFault
+  pub refuses : Refuses files fault
+  pub line : told ≡ refusal (refusal_words fault)
+
+abbrev pub TellsFiles : List SourceFile → Profile → Bool → Telling → Type 0
+TellsFiles files profile messages told =
+    TellsAnswer files profile messages told ⊎ TellsNoProject files told
+
+-- The files that the bytes are.
+pub record TellsPacked (bytes : List ℕ) (profile : Profile) (messages : Bool)
+    (told : Telling) : Type 0 where
+  pub files : List SourceFile
+  pub packed_are : packed files ≡ bytes
+  pub tells : TellsFiles files profile messages told
+
+-- the first file that has a flaw; out of memory has no text
+abbrev pub TellsFault : UnpackFault → Telling → Type 0
+TellsFault (faults.Flawed number flaw) told = told ≡ refusal (flaw_line number flaw)
+TellsFault faults.OutOfMemory told = ⊥
+
+-- Why the bytes are no files.
+pub record TellsNoFiles (bytes : List ℕ) (told : Telling) : Type 0 where
+  pub fault : UnpackFault
+  pub refuses : no_files.Refuses bytes fault
+  pub line : TellsFault fault told
+
+abbrev pub TellsUnpacked : List ℕ → Profile → Bool → Telling → Type 0
+TellsUnpacked bytes profile messages told =
+    TellsPacked bytes profile messages told ⊎ TellsNoFiles bytes told
+
+-- refused: no profile 3
+abbrev pub no_profile_line : ℕ → List ℕ
+no_profile_line number = codes "refused: no profile " ++ decimal number ++ codes "\n"
+
+-- By the rules of the profile of this number.
+pub record TellsBy (bytes : List ℕ) (number : ℕ) (messages : Bool) (told : Telling) : Type 0 where
+  pub profile : Profile
+  pub numbered : profile_number profile ≡ number
+  pub tells : TellsUnpacked bytes profile messages told
+
+-- No profile has this number.
+pub record TellsNoProfile (number : ℕ) (told : Telling) : Type 0 where
+  pub unknown : (profile : Profile) → profile_number profile ≡ number → ⊥
+  pub line : told ≡ refusal (no_profile_line number)
+
+-- The number of the profile is looked at first, then the bytes, and then the files.
+abbrev pub TellsScratch : List ℕ → ℕ → Bool → Telling → Type 0
+TellsScratch bytes number messages told =
+    TellsBy bytes number messages told ⊎ TellsNoProfile number told

@@ -1,0 +1,3 @@
+pub mod FlawWords
+pub mod Packing
+pub mod Unpacking

@@ -1,0 +1,8 @@
+//! Named files in one run of bytes, as a program hands over what it holds in memory.
+#![tactic(auto)]
+
+mod flaws;
+mod unpacking;
+
+pub use flaws::{Flaw, UnpackFault, flaw_text};
+pub use unpacking::unpack;

@@ -1,0 +1,11 @@
+use Rattle.std.proofs.Common.{refl}
+use Rattle.program_run.proofs.subcommands.auditing.accepted_report.Goals as goal
+
+pub returns : goal.returns
+returns c = record {
+  answer = c.audited_answer.result.now;
+  value = c.audited_answer.ensures;
+  text = c.in_ok-render.ensures;
+  line = c.in_ok-accepted_text.ensures;
+  status = refl;
+}

@@ -1,0 +1,29 @@
+use Rattle.std.proofs.Common.{◌∙◌, ap, map, string_bytes}
+use Rattle.mj_project.specs.Projects.{names_of, sources_view}
+use Rattle.program_run.specs.Unread.{NamesFail}
+use Rattle.program_run.specs.declared.failure.Failure.TheVariants as failure
+use Rattle.program_run.proofs.Failures.{told_as}
+use Rattle.program_run.proofs.Runs.{names_of_sources}
+use Rattle.program_run.proofs.subcommands.scratching.scratch.Goals as goal
+
+pub returns-clause-reports : goal.returns-clause-reports
+returns-clause-reports g c = record {
+  profile = c.profile_of.result;
+  numbered = c.profile_of.ensures;
+  files = c.in_ok-project.project;
+  answer = c.in_ok-answer.answer;
+  named = ap names_of c.in_ok-project.ensures.accepted ∙ names_of_sources _ ∙ c.in_ok-read_files.ensures.named;
+  rules = c.in_ok-answer.ensures;
+  text = c.in_ok-answer_report.ensures.answer;
+  lines = rw c.in_ok-read.ensures at c.in_ok-answer_report.ensures.notes;
+  status = c.in_ok-answer_report.ensures.status;
+}
+
+pub returns-in_err-project-clause-failed : goal.returns-in_err-project-clause-failed
+returns-in_err-project-clause-failed g c = told_as c.from_residual-in_err-project.result (failure.Project c.in_err-project.field-0.0)
+    (NamesFail (map string_bytes c.args.asked.files.items)) c.from_residual-in_err-project.ensures.1
+    (record {
+      files = sources_view c.in_ok-read_files.field-0.items;
+      named = names_of_sources _ ∙ c.in_ok-read_files.ensures.named;
+      refused = c.in_err-project.ensures.refused;
+    })

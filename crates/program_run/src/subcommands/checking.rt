@@ -1,0 +1,130 @@
+//! The check of a project over a cache.
+ghost use Rattle.std.specs.Prelude.{◌≡◌, ◌≤◌, IfOk, IfErr, map, string_bytes};
+ghost use Rattle.mj_project.specs.Projects.{names_of};
+ghost use Rattle.cached_check.specs.Checks.{RecordsAnswer};
+ghost use Rattle.command_line.specs.Runnable.{IsCheckable};
+ghost use Rattle.program_run.specs.Checks.{ChecksAsked, ChecksTo, TellsSession};
+ghost use Rattle.program_run.specs.Failures.{CheckFails};
+
+use crate::failure::Failure;
+use crate::files::read_files;
+use crate::report::{Report, Status};
+use crate::terms::{form_of, profile_of};
+use cached_check::{Beginning, answer_in, begin, next_session, summary_text};
+use command_line::CheckWords;
+use diagnostic_lines::fault_text_of;
+use mj_rules::{Project, render};
+use session_cache::{CacheWriteFault, write_file};
+use sessions::{Session, Terms, share};
+use std::alloc::{AllocError, Global};
+use std::mem::forget;
+use std::rt::Files;
+use std::sync::{Arc, Wait};
+use std::thread::Threads;
+
+/// The options of a check, but for its cache.
+#[derive(Clone, Copy)]
+struct CheckOptions {
+    /// The terms of its session.
+    terms: Terms,
+    /// Whether a diagnostic's line has its sentence.
+    messages: bool,
+    /// How many workers run the queries.
+    jobs: usize,
+}
+
+/// The report on a check of these files over the cache, by the session of these terms that follows the last one there,
+/// whose workers are threads. All of it is made before the session's file is written.
+pub(crate) fn check<R: Files + AllocGlobal, T: Threads + Wait + Sync>(
+    rt: &R,
+    threads: &T,
+    asked: CheckWords,
+) -> Result<Report, Failure>
+    requires { IsCheckable asked }
+    ensures reports { IfOk result (ChecksAsked asked) }
+    ensures failed { IfErr result
+        (CheckFails (string_bytes asked.cache) (map string_bytes asked.files.items)) }
+{
+    let CheckWords {
+        cache,
+        jobs,
+        profile,
+        form,
+        messages,
+        files,
+    } = asked;
+    let project = Project::new(rt.alloc(), read_files(rt, files)?)?;
+    let terms = Terms {
+        profile: profile_of(profile),
+        form: form_of(form),
+    };
+    let options = CheckOptions {
+        terms,
+        messages,
+        jobs,
+    };
+    check_project(rt, threads, &project, cache.as_str(), options)
+}
+
+// The report on a check of the project over the cache of this folder. Where its session isn't kept the notes stand in
+// front of what can't be written.
+fn check_project<R: Files + AllocGlobal, T: Threads + Wait + Sync>(
+    rt: &R,
+    threads: &T,
+    project: &Project,
+    cache: &str,
+    options: CheckOptions,
+) -> Result<Report, Failure>
+    requires some { 1 ≤ options.jobs }
+    requires most { options.jobs ≤ 64 }
+    ensures reports { IfOk result
+        (ChecksTo options.terms options.messages cache.now (names_of project.now)) }
+    ensures failed { IfErr result (CheckFails cache.now (names_of project.now)) }
+{
+    let alloc = rt.alloc();
+    let CheckOptions {
+        terms,
+        messages,
+        jobs,
+    } = options;
+    let Beginning { past, place, notes } = begin(rt, cache)?;
+    let Some(place) = place else {
+        return Err(Failure::CannotWrite(notes, String::from_str(alloc, cache)?));
+    };
+    let followed = share(&past)?;
+    let session = next_session(threads, alloc, past, project, terms, jobs)?;
+    let report = session_report(alloc, project, messages, notes.as_str(), &session)?;
+    match write_file(rt, threads, cache, place, &session, jobs) {
+        Ok(()) => {}
+        Err(CacheWriteFault::CannotWrite(path)) => return Err(Failure::CannotWrite(notes, path)),
+        Err(CacheWriteFault::OutOfMemory) => return Err(Failure::OutOfMemory),
+    }
+    // (the run ends here: the memory of both sessions is left to the system, which frees all of it at once)
+    forget(session);
+    forget(followed);
+    Ok(report)
+}
+
+// The report on a session: the notes, the diagnostics of its answer, and how many records were executed and green.
+fn session_report(
+    alloc: Global,
+    project: &Project,
+    messages: bool,
+    notes: &str,
+    session: &Session,
+) -> Result<Report, AllocError>
+    requires { RecordsAnswer session.now }
+    ensures { IfOk result (TellsSession project.now messages notes.now session.now) }
+{
+    let Some(answer) = answer_in(session) else {
+        unreachable!();
+    };
+    let mut told = String::from_str(alloc, notes)?;
+    told.push_str(fault_text_of(alloc, project, answer, messages)?.as_str())?;
+    told.push_str(summary_text(alloc, session)?.as_str())?;
+    Ok(Report {
+        notes: told,
+        answer: render(alloc, answer)?,
+        status: Status::of_answer(answer),
+    })
+}

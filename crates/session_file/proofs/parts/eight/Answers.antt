@@ -1,8 +1,0 @@
-use Rattle.session_file.proofs.FeedLaws.{handed_on, eight_took, eight_stops}
-use Rattle.session_file.proofs.parts.eight.Goals as goal
-
-pub returns-clause-value : goal.returns-clause-value
-returns-clause-value g c = eight_took c.read_u64.result c.in_ok-pull.ensures.pulled.1 c.in_ok-pull.ensures.pulled.0 c.read_u64.ensures
-
-pub returns-in_err-pull-clause-value : goal.returns-in_err-pull-clause-value
-returns-in_err-pull-clause-value g c = rw (handed_on c.from_residual.result _ c.from_residual.ensures.1) (eight_stops _ c.in_err-pull.field-0.0 c.in_err-pull.ensures.pulled)

@@ -1,0 +1,131 @@
+//! Results of records.
+ghost use Rattle.std.specs.Prelude.{◌≡◌, Some, IfOk, IsTrue, option_map};
+ghost use Rattle.std.specs.Arc.{arc_value};
+ghost use Rattle.std.specs.Option.{option_copied};
+ghost use Rattle.result_bytes.specs.Values.{decoding};
+ghost use Rattle.session_file.specs.Reading.{past_with_print, result_at, taken_at, value_with_print};
+ghost use Rattle.session_file.specs.Feeding.{CountsFeedFault, Feeds};
+
+use crate::fault::FileFault;
+use crate::reading::feed_fault::FeedFault;
+use crate::reading::parts::{bytes, eight, thirty_two};
+use devices::{Feed, HashingSink};
+use fingerprint::{Print, Sealed, SealedFault, open_sealed};
+use item_ids::Kind;
+use result_bytes::Refusal;
+use std::alloc::{AllocError, Global};
+use std::sync::Arc;
+
+/// Reads the fingerprint of the result of the record at an index. The result is the one that the previous session has of
+/// its key.
+pub(crate) fn take_result<F: Feed>(
+    feed: &mut F,
+    hash: &mut HashingSink,
+    had: Option<&Arc<Sealed>>,
+    index: usize,
+) -> Result<Arc<Sealed>, FeedFault>
+    ensures value { Feeds (F.holds feed.old) (F.holds feed.new) hash.old hash.new (λ x. arc_value x)
+        result (taken_at index (option_map arc_value (option_copied had.entry))) }
+    ensures counted { CountsFeedFault result (F.failed feed.old) (F.failed feed.new) }
+{
+    let print = thirty_two(feed, hash)?;
+    match with_print(had, &print) {
+        Ok(Some(sealed)) => Ok(sealed),
+        Ok(None) => Err(FeedFault::Breach(FileFault::NoPastResult(index))),
+        Err(_) => Err(FeedFault::Memory),
+    }
+}
+
+/// One more owner of a result, where it has this fingerprint.
+fn with_print(
+    had: Option<&Arc<Sealed>>,
+    print: &[u8; 32],
+) -> Result<Option<Arc<Sealed>>, AllocError>
+    ensures { IfOk result (λ found. option_map (λ sealed. arc_value sealed) found
+        ≡ past_with_print print.now (option_map arc_value (option_copied had.entry))) }
+{
+    match had {
+        Some(had) => {
+            if had.print().0 == *print {
+                Ok(Some(Arc::try_clone(had)?))
+            } else {
+                Ok(None)
+            }
+        }
+        None => Ok(None),
+    }
+}
+
+/// Reads the result of the record at an index, which is of a kind. Where the previous session has the same result of its
+/// key, that one is shared.
+pub(crate) fn read_result<F: Feed>(
+    alloc: Global,
+    feed: &mut F,
+    hash: &mut HashingSink,
+    had: Option<&Arc<Sealed>>,
+    index: usize,
+    kind: Kind,
+) -> Result<Arc<Sealed>, FeedFault>
+    ensures value { Feeds (F.holds feed.old) (F.holds feed.new) hash.old hash.new (λ x. arc_value x)
+        result (result_at index kind) }
+    ensures counted { CountsFeedFault result (F.failed feed.old) (F.failed feed.new) }
+{
+    let print = thirty_two(feed, hash)?;
+    let count = eight(feed, hash)?;
+    let text = bytes(alloc, feed, hash, count)?;
+    match share_or_open(alloc, had, kind, print, text) {
+        Ok(Some(sealed)) => Ok(sealed),
+        Ok(None) => Err(FeedFault::Breach(FileFault::Result(index))),
+        Err(_) => Err(FeedFault::Memory),
+    }
+}
+
+/// The value of a kind that the text spells, where it has the fingerprint.
+fn share_or_open(
+    alloc: Global,
+    had: Option<&Arc<Sealed>>,
+    kind: Kind,
+    print: [u8; 32],
+    text: Vec<u8>,
+) -> Result<Option<Arc<Sealed>>, AllocError>
+    ensures { IfOk result (λ found. option_map (λ sealed. arc_value sealed) found
+        ≡ value_with_print print (decoding kind text.items)) }
+{
+    if let Some(had) = had {
+        if is_spelled(had, kind, &print, &text) {
+            return Ok(Some(Arc::try_clone(had)?));
+        }
+    }
+    open(alloc, kind, print, text)
+}
+
+/// Whether the text spells this result of a kind, and the fingerprint is its own.
+fn is_spelled(sealed: &Sealed, kind: Kind, print: &[u8; 32], text: &[u8]) -> bool
+    ensures { IsTrue result
+        → value_with_print print.now (decoding kind text.now) ≡ Some sealed.now }
+{
+    if sealed.value().kind() != kind {
+        return false;
+    }
+    if sealed.print().0 != *print {
+        return false;
+    }
+    sealed.bytes() == text
+}
+
+/// The value of a kind that the text spells, where it has the fingerprint.
+fn open(
+    alloc: Global,
+    kind: Kind,
+    print: [u8; 32],
+    text: Vec<u8>,
+) -> Result<Option<Arc<Sealed>>, AllocError>
+    ensures { IfOk result (λ found. option_map (λ sealed. arc_value sealed) found
+        ≡ value_with_print print (decoding kind text.items)) }
+{
+    match open_sealed(alloc, kind, text, Print(print)) {
+        Ok(sealed) => Ok(Some(Arc::new(alloc, sealed)?)),
+        Err(SealedFault::Refused(Refusal::OutOfMemory)) => Err(AllocError),
+        Err(_) => Ok(None),
+    }
+}

@@ -1,7 +1,0 @@
-use mathlib.Core.List.{IsPrefix}
-use Rattle.shared_table.proofs.shared.Shared.ask.Given as goal
-
-abbrev pub invariant-asks : goal.invariant-asks
-invariant-asks g l =
-    (goal.iterator-asks g).can_next l.iterator' × (goal.iterator-asks g).is_finite l.iterator'
-    × IsPrefix l.fn.kept l.kept

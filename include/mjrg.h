@@ -1,0 +1,76 @@
+/* mjrg: the checks of MiniJava projects, for programs that hold the sources in memory.
+ *
+ * Link with libmjrg.a, which tools/library builds for Linux on x86-64-v2, and with the C library.
+ *
+ * The functions keep nothing from one call to the next, open no file, start no thread and hand out no memory: all that they
+ * write goes into buffers of the caller, and nothing is to be freed. Calls may run at the same time on different threads, each
+ * with buffers of its own. Any bytes are taken: what can't be used is refused with a text.
+ *
+ * The library is proved to keep to this, and nothing checks its callers. A caller has to see to it
+ *   - that no pointer is NULL, also with a length of 0, and that behind each there are as many bytes as its length says,
+ *     PTRDIFF_MAX at most;
+ *   - that the bytes of one call don't overlap, and that nothing else writes them during the call, or reads `out` or `err`;
+ *   - that 4 MiB of stack are free (deep phrases took 2.2 MiB at most);
+ *   - that malloc, realloc and free come from one allocator, whose blocks are aligned to 16 bytes, or, where they are smaller,
+ *     to the greatest power of two that divides their size;
+ *   - that no call is made from a signal handler, or in the forked child of a process with threads. */
+#ifndef MJRG_H
+#define MJRG_H
+
+#include <stddef.h>
+#include <stdint.h>
+
+#ifdef __cplusplus
+extern "C" {
+#endif
+
+/* How a call ends: the program's exit statuses (3, a refused chain, is the end of no function here), and one more. */
+enum {
+    MJRG_CLEAN = 0,         /* there is no diagnostic, or what was asked for is written */
+    MJRG_DIAGNOSTICS = 1,   /* the answer has diagnostics */
+    MJRG_REFUSED = 2,       /* there is no answer: `err` has one line that says why */
+    MJRG_OUT_OF_MEMORY = 4, /* memory ran out: nothing is written, and both lengths are 0 */
+    MJRG_TOO_SMALL = 5      /* a buffer is too small for its text: neither is written, and both lengths are told */
+};
+
+/* The status, and how many bytes each text has. The texts have no zero byte at their end. */
+typedef struct {
+    uint32_t status;
+    size_t out_length;
+    size_t err_length;
+} mjrg_result;
+
+/* Writes into `out` what `mjrg --version` prints. The status is MJRG_CLEAN or MJRG_TOO_SMALL. */
+mjrg_result mjrg_version(uint8_t *out, size_t out_size);
+
+/* Checks a project from its files alone, as `mjrg scratch --profile PROFILE FILE..` does: `out` gets what the program writes to
+ * standard output, the answer, and `err` what it writes to standard error, a line for each diagnostic. Unless `messages` is 0 it
+ * is as with --messages: each diagnostic has its sentence and its source line.
+ *
+ * `files` has the files in their order, one behind the other up to the end:
+ *
+ *     8 bytes   the length of the file's name, the most significant byte first
+ *               the name: UTF-8, 1 to 255 bytes, no name twice
+ *     8 bytes   the length of the file's text, the most significant byte first
+ *               the text: any bytes
+ *
+ * There are 1 to 4,096 files. What is refused, in this order:
+ *
+ *     refused: no profile 3                              the profile is neither 1 nor 2
+ *     refused: file 2: the length of its name is cut off file 2, counted from 0, is the first one that isn't whole,
+ *     refused: file 2: its name is cut off               or whose name isn't UTF-8
+ *     refused: file 2: its name isn't UTF-8
+ *     refused: file 2: its length is cut off
+ *     refused: file 2: its bytes are cut off
+ *     refused: 3.2 NoFiles                               as the program refuses them
+ *     refused: 3.3 TooManyFiles
+ *     refused: 3.4 BadFileName(2)
+ *     refused: 3.1 RepeatedFile(2) */
+mjrg_result mjrg_scratch(const uint8_t *files, size_t files_size, uint32_t profile, uint32_t messages,
+                         uint8_t *out, size_t out_size, uint8_t *err, size_t err_size);
+
+#ifdef __cplusplus
+}
+#endif
+
+#endif
