@@ -102,18 +102,20 @@ def compared(programs, shape, runs):
 
 def main():
     parser = argparse.ArgumentParser(description=__doc__, formatter_class=argparse.RawDescriptionHelpFormatter)
-    parser.add_argument("programs", nargs=2, type=program_path, metavar=("OLD", "NEW"))
+    parser.add_argument("old", type=program_path, metavar="OLD")
+    parser.add_argument("new", type=program_path, metavar="NEW")
     parser.add_argument("--runs", type=int, default=5, help="runs of which the shortest counts")
     parser.add_argument("--only", metavar="WORDS", default="", help="the shapes whose names have these words")
     parser.add_argument("--instructions", action="store_true", help="count them, by valgrind, in place of seconds")
     given = parser.parse_args()
+    programs = given.old, given.new
     for shape in SHAPES:
         if given.only not in shape:
             continue
         if given.instructions:
-            compare_counts(given.programs, shape)
+            compare_counts(programs, shape)
         else:
-            compared(given.programs, shape, given.runs)
+            compared(programs, shape, given.runs)
 
 
 if __name__ == "__main__":

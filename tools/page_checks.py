@@ -1,4 +1,5 @@
-"""What can be checked of the pages without the program: their links, the files and names that they cite, and their lengths.
+"""What can be checked of the pages: their links, the commands, files, options and names that they cite, the lines that they
+count, and their lengths.
 
 `checks` gives each check of each page with what is wrong there, as lines 'PAGE:LINE: WHAT'.
 """
@@ -8,10 +9,17 @@ from pathlib import Path
 TOP = Path(__file__).resolve().parent.parent
 # The most words of a page, as wc -w counts them.
 MOST_WORDS = {"README.md": 1900, "docs/PROOFS.md": 4000, "docs/ARCHITECTURE.md": 4500, "docs/DECISIONS.md": 5500,
-              "docs/CONTRIBUTING.md": 2400, "bench/README.md": 1500}
-# The pages in whose tables each contract, definition, mutant and file of crates/ has to be there.
-OF_CRATES = ("docs/PROOFS.md", "docs/ARCHITECTURE.md", "docs/EVIDENCE.md")
+              "docs/CONTRIBUTING.md": 2400, "docs/SESSIONS.md": 3000, "docs/LANGUAGE.md": 2500, "docs/EMBEDDING.md": 1500,
+              "docs/QUERIES.md": 1400, "docs/YOUR_QUERIES.md": 1300, "bench/README.md": 1500}
 MOST_IN_A_LINE, MOST_IN_A_CELL = 140, 300
+# The pages of which one has to link each other one.
+ENTRIES = ("README.md", "docs/ARCHITECTURE.md", "docs/CONTRIBUTING.md")
+# Words that look like names of crates/ and are none: of rustc's guide, of libraries and systems, and parts of names.
+OF_OTHERS = {"DepNode", "Fingerprint", "DepGraph", "try_mark_green", "force_from_dep_node", "ArcStr", "ENOMEM", "mj_", "_as"}
+# The columns of a table that name contracts and laws, whose files stand in the column File.
+CONTRACTS = ("Contract", "Laws", "Law")
+# The columns that count the lines of the crates of their row, by what of these.
+COUNTED = {"`src/`": "src/**/*.rt", "`specs/`": "specs/**/*.antt", "`proofs/`": "proofs/**/*.antt"}
 LINK = re.compile(r"\[[^\]]*\]\(([^)\s]+)\)")
 QUOTED = re.compile(r"`([^`]+)`")
 NAME = re.compile(r"\w+")
@@ -20,7 +28,7 @@ A_MUTANT = re.compile(r"(\w+)/([a-z0-9-]+)")
 
 
 def pages():
-    return [*sorted(TOP.glob("*.md")), *sorted(TOP.glob("docs/*.md")), *sorted(TOP.glob("bench/*.md")), *sorted(TOP.glob("cases/*.md"))]
+    return [page for part in ("*.md", "docs/*.md", "bench/*.md", "cases/*.md") for page in sorted(TOP.glob(part))]
 
 
 def lines_of(page):
@@ -39,6 +47,16 @@ def prose_of(page):
 def cells_of(line):
     """The cells of a line of a table, none of another line."""
     return [cell.strip() for cell in line.strip().strip("|").split(" | ")] if line.startswith("|") else []
+
+
+def rows_of(page):
+    """The rows of a page's tables with their numbers: each cell by the heading of its column."""
+    heads = []
+    for number, line in prose_of(page):
+        cells = cells_of(line)
+        if cells and heads:
+            yield number, dict(zip(heads, cells))
+        heads = heads or cells if cells else []
 
 
 def anchors(page):
@@ -60,18 +78,31 @@ def wrong_links(page):
                 yield number, f"{link}: no such heading"
 
 
+def unlinked(page):
+    """That no page links this one from which a reader comes."""
+    linked = {(entry.parent / link.partition("#")[0]).resolve()
+              for entry in (TOP / name for name in ENTRIES) for _, line in prose_of(entry) for link in LINK.findall(line)}
+    if page not in linked and page != TOP / "README.md":
+        yield 1, f"no link leads here from {', '.join(ENTRIES)}"
+
+
 def is_there(path):
     """Whether a file is there; '..' stands for the rest of a name, and a word in capitals for one."""
     return any(TOP.glob(re.sub(r"\.\.|(?<![a-z])[A-Z]{2,}(?!\.md)", "*", path.rstrip("/"))))
 
 
 def wrong_paths(page):
-    tops = ("crates/", "docs/", "tools/", "bench/", "cases/", "examples/")
+    """Files that aren't there, and options of commands of this repository that the command doesn't know."""
+    tops = ("crates/", "docs/", "tools/", "bench/", "cases/", "examples/", "./gate", "./release")
     for number, line in prose_of(page):
         for quoted in QUOTED.findall(line):
-            path = quoted.split()[0] if quoted.strip() else ""
+            path, *words = quoted.split() or [""]
+            options = [word for word in words if word.startswith("--")]
             if path.startswith(tops) and not is_there(path):
                 yield number, f"{path}: no such file"
+            elif path.startswith(tops) and options:
+                known = (TOP / path).read_text(encoding="utf-8")
+                yield from ((number, f"{path}: no such option as {option}") for option in options if option not in known)
 
 
 def names_in_crates():
@@ -97,24 +128,67 @@ def is_mutant(crate, name):
     return any((TOP / "crates" / crate / kind / f"{name}.edit").is_file() for kind in ("must-fail", "edits"))
 
 
+def files_in(text, folder=None):
+    """The files of crates that a text cites. One without a folder stands in that of the file in front of it."""
+    for quoted in QUOTED.findall(text):
+        if A_FILE.fullmatch(quoted):
+            if "/" in quoted:
+                folder = Path("crates") / Path(quoted.removeprefix("crates/")).parent
+            yield TOP / folder / Path(quoted).name if folder else TOP / quoted
+
+
 def wrong_names(page, names):
-    """Names and files of crates that the tables of a page cite and that aren't there. A file without a folder stands in that
-    of the file in front of it in its cell."""
+    """Names that a page cites, and in its tables files and mutants of crates, that aren't there."""
     for number, line in prose_of(page):
+        for part in (part for quoted in filter(is_named, QUOTED.findall(line)) for part in quoted.split("::")):
+            if part not in names and part not in OF_OTHERS:
+                yield number, f"{part}: no such name in crates/"
         for cell in cells_of(line):
-            folder = None
-            for quoted in QUOTED.findall(cell):
-                if is_named(quoted):
-                    yield from ((number, f"{part}: no such name in crates/") for part in quoted.split("::") if part not in names)
-                elif A_FILE.fullmatch(quoted):
-                    if "/" in quoted:
-                        folder = Path("crates") / Path(quoted.removeprefix("crates/")).parent
-                    path = folder / Path(quoted).name if folder else Path(quoted)
-                    if not (TOP / path).is_file():
-                        yield number, f"{path}: no such file"
-                elif mutant := A_MUTANT.fullmatch(quoted):
-                    if not is_mutant(*mutant.groups()):
-                        yield number, f"{quoted}: no such mutant"
+            yield from ((number, f"{path.relative_to(TOP)}: no such file") for path in files_in(cell) if not path.is_file())
+            for mutant in filter(None, map(A_MUTANT.fullmatch, QUOTED.findall(cell))):
+                if not is_mutant(*mutant.groups()) and not (TOP / mutant[0]).exists():
+                    yield number, f"{mutant[0]}: no such mutant"
+
+
+def wrong_contracts(page):
+    """Contracts and laws of tables that no file of their row has. 'the same' stands for the files of the row above."""
+    texts = []
+    for number, row in rows_of(page):
+        if "File" not in row or not any(head in row for head in CONTRACTS):
+            continue
+        if row["File"] != "the same":
+            texts = [path.read_text(encoding="utf-8") for path in files_in(row["File"]) if path.is_file()]
+        for head in CONTRACTS:
+            for quoted in QUOTED.findall(re.sub(r"\([^)]*\)", "", row.get(head, ""))):
+                if not all(any(re.search(rf"\b{part}\b", text) for text in texts) for part in quoted.split("::")):
+                    yield number, f"{quoted}: not in {row['File']}"
+
+
+def wrong_crates(page):
+    """Crates in a column for such that aren't there."""
+    for number, row in rows_of(page):
+        for quoted in QUOTED.findall(row.get("Crate", "") + row.get("Crates", "")):
+            if not (TOP / "crates" / quoted).is_dir():
+                yield number, f"{quoted}: no such crate"
+
+
+def lines_in(paths):
+    return sum(len(path.read_text(encoding="utf-8").splitlines()) for path in paths)
+
+
+def wrong_counts(page):
+    """Numbers of lines, of the crates or files that a row of a table cites, that are off by over a tenth, and over 50."""
+    for number, row in rows_of(page):
+        folders = [TOP / "crates" / crate for crate in QUOTED.findall(row.get("Crates", ""))]
+        counts = [(row[head], [path for folder in folders for path in folder.glob(part)])
+                  for head, part in COUNTED.items() if head in row]
+        if "Lines" in row:
+            counts.append((row["Lines"], [path for path in files_in(row.get("File", "")) if path.is_file()]))
+        for said, paths in counts:
+            if said.replace(",", "").isdigit():
+                count, lines = int(said.replace(",", "")), lines_in(paths)
+                if abs(count - lines) > max(50, lines // 10):
+                    yield number, f"{said} lines: there are {lines:,}"
 
 
 def wrong_lengths(page):
@@ -131,13 +205,26 @@ def wrong_lengths(page):
         yield 1, f"{words} words, of at most {most}"
 
 
-def checks():
-    """What is wrong in each page, check by check: an empty list where nothing is."""
+def wrong_commands(page, help_of):
+    """Commands of the program that a page cites and that it doesn't know, or whose options it doesn't. `help_of` gives the help
+    of a subcommand, or None."""
+    for number, line in prose_of(page):
+        for quoted in QUOTED.findall(line):
+            name, *words = quoted.split() or [""]
+            if name.removeprefix("./") != "mjrg" or not words or words[0].startswith("-"):
+                continue
+            known = help_of(words[0])
+            if known is None:
+                yield number, f"{quoted}: no such command"
+            else:
+                options = (word for word in words if word.startswith("--"))
+                yield from ((number, f"{quoted}: no such option") for option in options if not re.search(f"{option}\\b", known))
+
+
+def checks(help_of):
+    """What is wrong in each page, check by check: an empty list if nothing is."""
     names = names_in_crates()
     for page in pages():
-        shown = page.relative_to(TOP)
-        found = [wrong_links(page), wrong_paths(page), wrong_lengths(page)]
-        if str(shown) in OF_CRATES:
-            found.append(wrong_names(page, names))
-        for wrong in found:
-            yield [f"{shown}:{number}: {what}" for number, what in wrong]
+        for wrong in (wrong_links(page), unlinked(page), wrong_paths(page), wrong_lengths(page), wrong_names(page, names),
+                      wrong_contracts(page), wrong_crates(page), wrong_counts(page), wrong_commands(page, help_of)):
+            yield [f"{page.relative_to(TOP)}:{number}: {what}" for number, what in wrong]
