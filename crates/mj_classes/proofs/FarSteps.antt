@@ -178,6 +178,27 @@ far_stays steps count far stay all each at lt =
     let same = each at below in
     omega (arith, inside, same, all)
 
+-- steps that lead nowhere else when they are taken twice lead there however often they are taken
+pub far_still : (step : ℕ → ℕ) (many count : ℕ) (far : List ℕ) → ((at : ℕ) → at < many → step at < many) → length far ≡ many → 0 < count → ((at : ℕ) → at < many → led far at ≡ led_far step count at) → far ≡ map (led far) far → LeadFar step many far
+far_still step many count far stay all some each still = by count some each
+  where
+    again : (n : ℕ) → ((at : ℕ) → at < many → led far at ≡ led_far step n at) → (k : ℕ) (at : ℕ) → at < many → led far at ≡ led_far step (rounds n (suc k)) at
+    again n each zero at lt = let once : rounds n 1 ≡ n = omega arith in each at lt ∙ sym (ap (λ (m : ℕ). led_far step m at) once)
+    again n each (suc k) at lt =
+        let below : led_far step n at < many = far_within step many stay n at lt in
+        ap (λ (xs : List ℕ). led xs at) still
+        ∙ (led-twice far at (omega arith)
+        ∙ (ap (led far) (each at lt)
+        ∙ (again n each k (led_far step n at) below ∙ sym (led_far-add step n (rounds n (suc k)) at))))
+    by : (n : ℕ) → 0 < n → ((at : ℕ) → at < many → led far at ≡ led_far step n at) → LeadFar step many far
+    by zero lt each = absurd (omega arith)
+    by (suc p) lt each = record {
+      count = rounds (suc p) (suc many);
+      enough = let long = rounds_long p (suc many) in omega arith;
+      all = all;
+      each = again (suc p) each many;
+    }
+
 -- ---- flags of the places that come back
 
 get_or-no_flags : (many at : ℕ) → get_or (replicate many false) at false ≡ false

@@ -17,6 +17,8 @@ fn twice(alloc: Global, steps: &[usize]) -> Result<Vec<usize>, AllocError>
 }
 
 /// For each place the one to which many steps lead, as many as there are places, or more.
+///
+/// It stops as soon as twice as many steps lead nowhere else.
 fn lead_far(alloc: Global, steps: &[usize]) -> Result<Vec<usize>, AllocError>
     requires { StayWithin steps.now }
     ensures { IfOk result (λ far. LeadFar (led steps.now) (length steps.now) far.items) }
@@ -27,7 +29,11 @@ fn lead_far(alloc: Global, steps: &[usize]) -> Result<Vec<usize>, AllocError>
         if count >= steps.len() {
             return Ok(far);
         }
-        far = twice(alloc, &far)?;
+        let farther = twice(alloc, &far)?;
+        if farther == far {
+            return Ok(far);
+        }
+        far = farther;
         count += count;
     }
     Ok(far)
