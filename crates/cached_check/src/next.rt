@@ -7,18 +7,20 @@ ghost use Rattle.query_rules.specs.Queries.{queries};
 ghost use Rattle.next_sessions.specs.Nexts.{StandsApart};
 ghost use Rattle.cached_check.specs.Checks.{IsMadeOver, IsNextByRules};
 
+use driver::changed_files;
 use mini_java::{DriveFault, Open, run_session_as};
 use mj_project::Project;
 use mj_rules::answer_laws;
 use sessions::{Session, Terms};
-use std::alloc::Global;
+use std::alloc::{AllocError, Global};
 use std::sync::{Arc, Wait};
 use std::thread::Threads;
 
-/// The session of a project, of these terms, that follows the previous one, made by so many workers, each in a thread of
-/// its own. Where the previous session is one of some project, or there is none, and no two different results, one of
-/// it and one of this session, share a fingerprint, it is the session that any workers make, and its answer is what the
-/// static rules of its profile give the project's files. There is none only if memory runs out.
+/// The session of a project, of these terms, that follows the previous one, made by so many workers at most, each in a thread
+/// of its own, and by no more of them than files have changed. Where the previous session is one of some project, or there
+/// is none, and no two different results, one of it and one of this session, share a fingerprint, it is the session that any
+/// workers make, and its answer is what the static rules of its profile give the project's files. There is none only if
+/// memory runs out.
 #[tactic(auto, using(crate::proofs::Answered::only_memory))]
 pub fn next_session<T: Threads + Wait + Sync>(
     rt: &T,
@@ -37,6 +39,9 @@ pub fn next_session<T: Threads + Wait + Sync>(
 {
     // The answer that the queries mean is that of the rules.
     answer_laws();
+    let Ok(workers) = workers_for(alloc, &past, project, terms, workers) else {
+        return Err(DriveFault::OutOfMemory);
+    };
     match run_session_as(rt, alloc, past, project, terms, workers, &Open) {
         Ok((session, _)) => {
             // A session keeps in its type what its records are.
@@ -45,4 +50,24 @@ pub fn next_session<T: Threads + Wait + Sync>(
         }
         Err(fault) => Err(fault),
     }
+}
+
+/// How many of so many workers there is work for: as many as files have changed, and at least one. What several workers
+/// share costs more than one worker alone takes for a file.
+fn workers_for(
+    alloc: Global,
+    past: &Option<Arc<Session>>,
+    project: &Project,
+    terms: Terms,
+    workers: usize,
+) -> Result<usize, AllocError>
+    requires { IsCrew workers }
+    ensures { IfOk result IsCrew }
+{
+    let past = match past {
+        Some(past) => Some(&**past),
+        None => None,
+    };
+    let changed = changed_files(alloc, past, terms.profile, project)?;
+    Ok(changed.max(1).min(workers))
 }

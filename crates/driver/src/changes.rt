@@ -1,4 +1,5 @@
-//! Whether anything has changed since the previous session.
+//! How much has changed since the previous session.
+ghost use Rattle.std.specs.Prelude.{◌≤◌, length, IfOk};
 
 use item_ids::Key;
 use mj_lexer::Name;
@@ -8,49 +9,36 @@ use project_inputs::same_source;
 use sessions::Session;
 use std::alloc::{AllocError, Global};
 
-/// Whether the previous session is of this profile, and has just the files of the project. As a rule nothing is run
-/// then, so that there is no work to share.
-pub(crate) fn has_files(
+/// How many files of a project the previous session doesn't have with these bytes: all of them if there is no session, or
+/// if it is of another profile.
+pub fn changed_files(
     alloc: Global,
-    past: &Session,
+    past: Option<&Session>,
     profile: Profile,
     project: &Project,
-) -> Result<bool, AllocError> {
-    if !past.terms().profile.is(profile) {
-        return Ok(false);
-    }
+) -> Result<usize, AllocError>
+    ensures { IfOk result (λ count. count ≤ length project.now) }
+{
     let files = project.files();
-    let names = names_in(past);
-    if names.len() != files.len() {
-        return Ok(false);
-    }
-    for at in 0..files.len() {
-        if !has_file(alloc, past, &names[at], &files[at])? {
-            return Ok(false);
+    match past {
+        Some(past) if past.terms().profile.is(profile) => {
+            let mut changed = 0;
+            for (name, bytes) in files {
+                if !has_file(alloc, past, name.as_str(), bytes.as_slice())? {
+                    changed += 1;
+                }
+            }
+            Ok(changed)
         }
-    }
-    Ok(true)
-}
-
-/// The names of a session's files.
-fn names_in(past: &Session) -> &[Name] {
-    match past.find(&Key::Files) {
-        Some(item) => item.sealed().value().files(),
-        None => &[],
+        _ => Ok(files.len()),
     }
 }
 
 /// Whether a session has a file of this name with these bytes.
-fn has_file(
-    alloc: Global,
-    past: &Session,
-    name: &Name,
-    file: &(String, Vec<u8>),
-) -> Result<bool, AllocError> {
-    let (own, bytes) = file;
-    if name.bytes() != own.as_bytes() {
-        return Ok(false);
-    }
-    let key = Key::Source(name.copy(alloc)?);
-    Ok(same_source(past, &key, bytes.as_slice()).is_some())
+fn has_file(alloc: Global, past: &Session, name: &str, bytes: &[u8]) -> Result<bool, AllocError>
+    requires some { 0 < length name.now }
+    requires short { length name.now ≤ 255 }
+{
+    let key = Key::Source(Name::new(alloc, name)?);
+    Ok(same_source(past, &key, bytes).is_some())
 }

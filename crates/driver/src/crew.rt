@@ -40,15 +40,6 @@ pub(crate) struct Jobs<'a, G> {
     pub gate: &'a G,
 }
 
-/// Who works at the table.
-#[derive(Clone, Copy)]
-pub(crate) enum Workers {
-    /// The first worker does all jobs, alone.
-    First,
-    /// All workers share the jobs.
-    All,
-}
-
 /// A worker of a crew: its number, its allocator, its runner, and its count of events.
 #[derive(Drop)]
 pub(crate) struct Member<J: Naming, R: Runner> {
@@ -88,7 +79,8 @@ pub(crate) fn make_workers<J: Naming, R: Runner + Drop, F: Fn() -> R>(
     Ok(team)
 }
 
-/// All workers do their jobs at a table, each in a thread of its own, or the first one does all of them alone.
+/// All workers do their jobs at a table, each in a thread of its own. One worker is alone at it, and does its jobs in this
+/// thread.
 pub(crate) fn work_at<
     J: Naming + Send + Sync,
     R: Runner + Drop + Send + Sync,
@@ -100,23 +92,17 @@ pub(crate) fn work_at<
     list: Opened<Read>,
     jobs: &Jobs<'_, G>,
     team: &mut Vec<Member<J, R>>,
-    workers: Workers,
 ) -> Result<Counted<J, R>, AllocError>
     requires team { 0 < vec_len team.old }
     requires list { list.seen.book ≡ J.book }
     ensures { vec_len team.new ≡ vec_len team.old }
 {
-    match workers {
-        Workers::First => {
-            let first = team.len() - 1;
-            Ok(work_alone(counted, jobs, &mut team[first]))
-        }
-        Workers::All => {
-            let shared = Shared::new(counted, list)?;
-            work_all(rt, &shared, jobs, team);
-            Ok(shared.into_counted())
-        }
+    if team.len() == 1 {
+        return Ok(work_alone(counted, jobs, &mut team[0]));
     }
+    let shared = Shared::new(counted, list)?;
+    work_all(rt, &shared, jobs, team);
+    Ok(shared.into_counted())
 }
 
 /// A worker does all jobs at a table of its own.

@@ -10,6 +10,7 @@ mod lists;
 mod reports;
 mod session;
 
+pub use changes::changed_files;
 pub use crew::Crew;
 pub use fault::DriveFault;
 pub use laws::{made_sessions_are_one, refusals_are_exact, sessions_are_next};

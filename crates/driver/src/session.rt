@@ -11,8 +11,7 @@ ghost use Rattle.next_sessions.specs.Nexts.{StandsApart, IsNextSession};
 ghost use Rattle.shared_table.specs.Opened.{IsOpenedFor};
 ghost use Rattle.driver.specs.Sessions.{IsCrew, DriveGives, IsSessionOf};
 
-use crate::changes::has_files;
-use crate::crew::{Crew, Jobs, Member, Workers, join_counts, make_workers, work_at};
+use crate::crew::{Crew, Jobs, Member, join_counts, make_workers, work_at};
 use crate::fault::DriveFault;
 use crate::laws::sessions_are_next;
 use crate::lists::Lists;
@@ -97,7 +96,6 @@ pub fn drive_as<
     sessions_are_next();
     match Table::open_by(rt, alloc, past, project, terms, workers) {
         Ok(table) => {
-            let at_table = workers_for(alloc, &table, project, workers)?;
             let lists = Lists::new(step);
             let jobs = Jobs {
                 project,
@@ -105,9 +103,7 @@ pub fn drive_as<
                 gate,
             };
             let opening = Opening::new(table, workers as u64);
-            let done = drive_table::<Brand, R, F, G, T>(
-                rt, alloc, make, opening, &jobs, workers, at_table,
-            )?;
+            let done = drive_table::<Brand, R, F, G, T>(rt, alloc, make, opening, &jobs, workers)?;
             // A session keeps in its type what its records are.
             let _records = done.0.records();
             Ok(done)
@@ -152,7 +148,6 @@ fn drive_table<
     opening: Opening<R>,
     jobs: &Jobs<'_, G>,
     workers: usize,
-    at_table: Workers,
 ) -> Result<(Session, Reports), AllocError>
     requires makes { F.IsAlwaysCallable make.now }
     requires opened { IsOpenedFor J.name J.parts J.book J.opened opening }
@@ -163,7 +158,7 @@ fn drive_table<
 {
     let (counted, mut all, list) = opening.named::<J>();
     let mut team = make_workers::<J, R, F>(alloc, &mut all, workers, make)?;
-    let counted = work_at(rt, counted, list, jobs, &mut team, at_table)?;
+    let counted = work_at(rt, counted, list, jobs, &mut team)?;
     end(alloc, all, team, counted)
 }
 
@@ -198,32 +193,6 @@ fn session_of<R: Runner>(
     table.laws();
     let history = table.history().len();
     Ok((close(table)?, Reports { events, history }))
-}
-
-/// Who works at a table: the first worker alone, if there is no other or as a rule nothing is run.
-fn workers_for<R: Runner>(
-    alloc: Global,
-    table: &Table<R>,
-    project: &Project,
-    workers: usize,
-) -> Result<Workers, AllocError> {
-    if workers == 1 || is_unchanged(alloc, table, project)? {
-        Ok(Workers::First)
-    } else {
-        Ok(Workers::All)
-    }
-}
-
-/// Whether the session before a table is of the same profile, and has just the files of the project.
-fn is_unchanged<R: Runner>(
-    alloc: Global,
-    table: &Table<R>,
-    project: &Project,
-) -> Result<bool, AllocError> {
-    match table.past()? {
-        Some(past) => has_files(alloc, &past, table.terms().profile, project),
-        None => Ok(false),
-    }
 }
 
 /// The session of a table, when all workers have ended. It isn't closed where one of them failed: that one ran out of

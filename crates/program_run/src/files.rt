@@ -5,9 +5,17 @@ ghost use Rattle.program_run.specs.Unread.{AreUnread, IsUnreadFile};
 ghost use Rattle.program_run.specs.declared.failure.Failure.TheVariants as failures;
 
 use crate::failure::Failure;
+use std::alloc::{AllocError, Global};
 use std::io::ErrorKind;
 use std::rt::Files;
-use std::{fs, io};
+use std::thread::Threads;
+use std::{fs, io, thread};
+
+/// The most threads that read files: more of them gained nothing.
+const READERS: usize = 4;
+
+/// The fewest files that are read by several threads: of fewer it takes as long to make the threads.
+const FEW: usize = 64;
 
 /// The files with their bytes, in the order given.
 pub(crate) fn read_files<R: Files + AllocGlobal>(
@@ -18,11 +26,97 @@ pub(crate) fn read_files<R: Files + AllocGlobal>(
         map (λ file. string_bytes file.0) files.items ≡ map string_bytes names.items) }
     ensures failed { IfErr result (AreUnread (map string_bytes names.items)) }
 {
+    read_others(rt, names, Vec::new(rt.alloc()))
+}
+
+/// The files with their bytes, in the order given, read by so many threads, four at most, if there are many files.
+pub(crate) fn read_files_by<R: Files + AllocGlobal + Sync, T: Threads + Sync>(
+    rt: &R,
+    threads: &T,
+    names: Vec<String>,
+    workers: usize,
+) -> Result<Vec<(String, Vec<u8>)>, Failure>
+    ensures named { IfOk result (λ files.
+        map (λ file. string_bytes file.0) files.items ≡ map string_bytes names.items) }
+    ensures failed { IfErr result (AreUnread (map string_bytes names.items)) }
+{
+    if workers == 1 || names.len() < FEW {
+        return read_files(rt, names);
+    }
+    let bytes = bytes_by(rt, threads, &names, workers.min(READERS))?;
+    read_others(rt, names, bytes)
+}
+
+/// The bytes of these files, in order, read by so many threads; `None` for a file that can't be read.
+fn bytes_by<R: Files + AllocGlobal + Sync, T: Threads + Sync>(
+    rt: &R,
+    threads: &T,
+    names: &[String],
+    readers: usize,
+) -> Result<Vec<Option<Vec<u8>>>, AllocError>
+    requires { 0 < readers }
+{
+    let part = names.len().div_ceil(readers).max(1);
+    let parts = thread::map_chunks(
+        threads,
+        rt.alloc(),
+        names,
+        part,
+        &|_, some: &[String]| { bytes_of(rt, some) },
+    )?;
+    let mut all = Vec::new(rt.alloc());
+    for part in parts {
+        let mut bytes = part?;
+        all.append(&mut bytes)?;
+    }
+    Ok(all)
+}
+
+/// The bytes of these files, in order; `None` for a file that can't be read.
+fn bytes_of<R: Files + AllocGlobal>(
+    rt: &R,
+    names: &[String],
+) -> Result<Vec<Option<Vec<u8>>>, AllocError> {
+    let mut all = Vec::new(rt.alloc());
+    for name in names {
+        all.push(fs::read(rt, name.as_str()).ok())?;
+    }
+    Ok(all)
+}
+
+/// The files, in the order given, of which these bytes were read. The others are read, so that the failure of the first file
+/// that can't be read is found.
+fn read_others<R: Files + AllocGlobal>(
+    rt: &R,
+    names: Vec<String>,
+    bytes: Vec<Option<Vec<u8>>>,
+) -> Result<Vec<(String, Vec<u8>)>, Failure>
+    ensures named { IfOk result (λ files.
+        map (λ file. string_bytes file.0) files.items ≡ map string_bytes names.items) }
+    ensures failed { IfErr result (AreUnread (map string_bytes names.items)) }
+{
+    let mut bytes = bytes.into_iter();
     let mut files = Vec::new(rt.alloc());
     for name in names {
-        files.push(read_file(rt, name)?)?;
+        let found = bytes.next().flatten();
+        files.push(read_unless_found(rt, name, found)?)?;
     }
     Ok(files)
+}
+
+/// The file of this name with the bytes that were found, else with those that are read.
+fn read_unless_found<R: Files + AllocGlobal>(
+    rt: &R,
+    name: String,
+    found: Option<Vec<u8>>,
+) -> Result<(String, Vec<u8>), Failure>
+    ensures named { IfOk result (λ file. string_bytes file.0 ≡ string_bytes name) }
+    ensures failed { IfErr result (IsUnreadFile (string_bytes name)) }
+{
+    match found {
+        Some(bytes) => Ok((name, bytes)),
+        None => read_file(rt, name),
+    }
 }
 
 /// The file of this name with its bytes.
