@@ -3,7 +3,8 @@
 
 Each file is of one kind: all its fields are faulty, its classes stand in one chain, and so on. Prints for each the least
 time of some runs of `scratch`, of a first check and of an unchanged one, and how many times as long each is as the same
-takes on the ordinary file. Nothing is asserted. A file that takes longer than the limit is given up.
+takes on the ordinary file; behind that both checks by several workers (--jobs), and what part of one worker's time they
+take. Nothing is asserted. A file that takes longer than the limit is given up.
 """
 import argparse
 import shutil
@@ -39,15 +40,20 @@ def numbers():
         number += 1
 
 
-def ring():
+def ring(members=""):
     """As many classes as there is room for, each of which extends the next, and the last of which the first."""
-    parts, room = [], MOST - len(MAIN) - len("class C00000 extends C0{}\n")
+    parts, room = [], MOST - len(MAIN) - len(f"class C00000 extends C0{{{members}}}\n")
     for i in numbers():
-        part = f"class C{i} extends C{i + 1}{{}}"
+        part = f"class C{i} extends C{i + 1}{{{members}}}"
         room -= len(part)
         if room < 0:
-            return MAIN + "".join(parts) + f"class C{i} extends C0{{}}\n"
+            return MAIN + "".join(parts) + f"class C{i} extends C0{{{members}}}\n"
         parts.append(part)
+
+
+def chain(members=""):
+    """As many classes as there is room for, each of which extends the one before."""
+    return filled(f"class C0{{{members}}}", (f"class C{i + 1} extends C{i}{{{members}}}" for i in numbers()), "\n")
 
 
 def ordinary_methods(letter):
@@ -69,9 +75,11 @@ KINDS = {
     "repeated classes": lambda: filled("", ("class A{}" for _ in numbers()), "\n"),
     "new of undeclared classes": lambda: filled(
         "class A { ", (f"public int m{i}(){{return new B{i}().f();}}" for i in numbers()), "}\n"),
-    "one chain of classes": lambda: filled(
-        "class C0{}", (f"class C{i + 1} extends C{i}{{}}" for i in numbers()), "\n"),
+    "one chain of classes": chain,
     "classes in a ring": ring,
+    "a chain of a field each": lambda: chain("int f;"),
+    "a ring of a field each": lambda: ring("int f;"),
+    "a chain of a method each": lambda: chain("public int m(){return this.n();}"),
     "methods of one class": lambda: filled(
         "class A { ", (f"public int m{i}(){{return 1;}}" for i in numbers()), "}\n"),
     "calls in one class": lambda: filled(
@@ -92,19 +100,24 @@ def timed(words, limit):
     return (taken, status) if taken < limit else None
 
 
-def runs_of(program, path):
+def runs_of(program, path, jobs):
     """The runs that are timed, in order: an unchanged check stands over the cache of the first one."""
-    cache = Path(path).parent / "cache"
-    check = [program, "check", "--cache", str(cache), path]
-    shutil.rmtree(cache, ignore_errors=True)
-    return {"scratch": [program, "scratch", path], "first check": check, "unchanged": check}
+    runs = {"scratch": [program, "scratch", path]}
+    for number, behind in ((1, ""), (jobs, f" by {jobs}")):
+        cache = Path(path).parent / f"cache{number}"
+        check = [program, "check", "--cache", str(cache), "--jobs", str(number), path]
+        shutil.rmtree(cache, ignore_errors=True)
+        runs |= {f"first check{behind}": check, f"unchanged{behind}": check}
+    return runs
 
 
-def least_times(program, path, runs, limit):
+def least_times(program, path, runs, limit, jobs):
     """The least seconds of each of these runs, or None where one takes longer than the limit."""
     least = {}
     for _ in range(runs):
-        for run, words in runs_of(program, path).items():
+        for run, words in runs_of(program, path, jobs).items():
+            if run in least and least[run] is None:
+                continue
             took = timed(words, limit)
             if took is not None and took[1] not in (0, 1):
                 raise SystemExit(f"{path}: {run} ends with status {took[1]}")
@@ -114,15 +127,20 @@ def least_times(program, path, runs, limit):
     return least
 
 
-def shown(seconds, ordinary, limit):
+def shown(run, took, ordinary, limit):
+    """The seconds of a run beside those of the ordinary file, or by several workers beside those of one."""
+    seconds, alone = took[run], run.partition(" by ")[0]
     if seconds is None:
         return f"over {limit} s"
-    return f"{seconds:.3f} s, {seconds / ordinary:.1f} times"
+    if run != alone:
+        return f"{seconds:.3f} s, {seconds / took[alone]:.2f} of one worker's"
+    return f"{seconds:.3f} s, {seconds / ordinary[run]:.1f} times"
 
 
 def main():
     parser = argparse.ArgumentParser(description=__doc__.splitlines()[0])
     parser.add_argument("--limit", type=int, default=60, help="seconds after which a run is given up")
+    parser.add_argument("--jobs", type=int, default=4, help="how many workers make the checks by several")
     given = asked(parser)
     ordinary = None
     with tempfile.TemporaryDirectory() as folder:
@@ -130,9 +148,9 @@ def main():
             path = Path(folder, "file.java")
             text = text()[:MOST]
             path.write_text(text)
-            took = least_times(given.program, str(path), given.runs, given.limit)
+            took = least_times(given.program, str(path), given.runs, given.limit, given.jobs)
             ordinary = ordinary or took
-            told = "; ".join(f"{run} {shown(seconds, ordinary[run], given.limit)}" for run, seconds in took.items())
+            told = "; ".join(f"{run} {shown(run, took, ordinary, given.limit)}" for run in took)
             print(f"{kind}: {len(text)} bytes; {told}", flush=True)
 
 

@@ -9,7 +9,8 @@ and of files in which a class got a field; each with how many times as long as `
 Of the first of these a check of unchanged sources over a session of another profile, the bytes of an unchanged session in
 both forms, and an unchanged check behind 1, 2, 10 and 50 sessions of form 2, each beside an unchanged check in form 1.
 
-By 1, 2, 4 and 8 workers (--jobs) a first session and an unchanged one, each beside the time of the first number of workers.
+By 1, 2, 4 and 8 workers (--jobs) a first session, an unchanged one, and one in which a body was edited, each beside the time
+of the first number of workers.
 The runs take turns, and the least of each counts. Nothing is asserted but that all workers make the same files.
 """
 import argparse
@@ -22,29 +23,35 @@ from pathlib import Path
 sys.dont_write_bytecode = True
 from chains import session_files  # noqa: E402
 from measuring import asked, measured  # noqa: E402
-from projects import write_project  # noqa: E402
+from projects import EDITS, edit_file, write_project  # noqa: E402
 from rechecks import by_shapes  # noqa: E402
+from shapes import SHAPES  # noqa: E402
 from terms import by_terms  # noqa: E402
 
-# Projects by their classes, fields and methods, and how many classes stand in a file.
+# A name, and how to write the project.
 PROJECTS = {
-    "400 classes of 5 methods": (400, 4, 5, 40),
-    "100 classes of 60 methods": (100, 4, 60, 5),
-    "4,096 files of a class of 1 method": (4095, 2, 1, 1),
+    "400 classes of 5 methods": lambda folder: write_project(folder, 400, 4, 5, 40),
+    "100 classes of 60 methods": lambda folder: write_project(folder, 100, 4, 60, 5),
+    "4,096 files of a class of 1 method": lambda folder: write_project(folder, 4095, 2, 1, 1),
+    **{name: write for name, write in SHAPES.items() if name.startswith(("a body", "a chain"))},
 }
 
 
 def check_by(program, folder, names, jobs):
-    """Seconds of a first session by so many workers and of an unchanged one, and the files that they made."""
+    """Seconds of a first session by so many workers, of an unchanged one, and of one behind it with a body edited, and the
+    files that they made."""
     cache = f"cache{jobs}"
     shutil.rmtree(Path(folder, cache), ignore_errors=True)
     words = [program, "check", "--cache", cache, "--jobs", str(jobs), *names]
     took = [measured(words, folder).seconds for _ in range(2)]
+    text = edit_file(folder, names[-1], EDITS["a body edited"], 7)
+    took.append(measured(words, folder).seconds)
+    Path(folder, names[-1]).write_text(text)
     return took, session_files(folder, cache)
 
 
 def times_by(program, folder, names, numbers, runs):
-    """The least seconds of both sessions by each number of workers."""
+    """The least seconds of each session by each number of workers."""
     least = {}
     for _ in range(runs):
         made = None
@@ -58,14 +65,14 @@ def times_by(program, folder, names, numbers, runs):
 
 
 def by_workers(program, numbers, runs):
-    for title, (classes, fields, methods, in_one_file) in PROJECTS.items():
+    for title, write in PROJECTS.items():
         with tempfile.TemporaryDirectory() as folder:
-            names = write_project(folder, classes, fields, methods, in_one_file)
-            least = times_by(program, folder, names, numbers, runs)
+            least = times_by(program, folder, write(folder), numbers, runs)
         print(title)
         for jobs, took in least.items():
-            first, again = (f"{seconds:.2f} s, {seconds / alone:.2f}" for seconds, alone in zip(took, least[numbers[0]]))
-            print(f"  {jobs} workers: a first session {first}; unchanged {again}")
+            parts = (f"{seconds:.2f} s, {seconds / alone:.2f}" for seconds, alone in zip(took, least[numbers[0]]))
+            first, again, edited = parts
+            print(f"  {jobs} workers: a first session {first}; unchanged {again}; a body edited {edited}", flush=True)
 
 
 def main():
