@@ -1,5 +1,5 @@
 //! How much has changed since the previous session.
-ghost use Rattle.std.specs.Prelude.{◌≤◌, length, IfOk};
+ghost use Rattle.std.specs.Prelude.{◌<◌, ◌≤◌, length, IfOk};
 
 use item_ids::Key;
 use mj_lexer::Name;
