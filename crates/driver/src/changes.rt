@@ -1,5 +1,6 @@
 //! How much has changed since the previous session.
 ghost use Rattle.std.specs.Prelude.{◌<◌, ◌≤◌, length, IfOk};
+ghost use Rattle.project_inputs.specs.Inputs.{AreNamed};
 
 use item_ids::Key;
 use mj_lexer::Name;
@@ -11,6 +12,7 @@ use std::alloc::{AllocError, Global};
 
 /// How many files of a project the previous session doesn't have with these bytes: all of them if there is no session, or
 /// if it is of another profile.
+#[tactic(auto, using(project_inputs::proofs::SealedRules::named))]
 pub fn changed_files(
     alloc: Global,
     past: Option<&Session>,
@@ -21,17 +23,27 @@ pub fn changed_files(
 {
     let files = project.files();
     match past {
-        Some(past) if past.terms().profile.is(profile) => {
-            let mut changed = 0;
-            for (name, bytes) in files {
-                if !has_file(alloc, past, name.as_str(), bytes.as_slice())? {
-                    changed += 1;
-                }
-            }
-            Ok(changed)
-        }
+        Some(past) if past.terms().profile.is(profile) => count_changed(alloc, past, files),
         _ => Ok(files.len()),
     }
+}
+
+/// How many of these files a session doesn't have with these bytes.
+fn count_changed(
+    alloc: Global,
+    past: &Session,
+    files: &[(String, Vec<u8>)],
+) -> Result<usize, AllocError>
+    requires { AreNamed files.now }
+    ensures { IfOk result (λ count. count ≤ length files.now) }
+{
+    let mut changed = 0;
+    for (name, bytes) in files {
+        if !has_file(alloc, past, name.as_str(), bytes.as_slice())? {
+            changed += 1;
+        }
+    }
+    Ok(changed)
 }
 
 /// Whether a session has a file of this name with these bytes.
