@@ -1,7 +1,7 @@
 #!/usr/bin/env python3
 """Times `mjrg audit` of a first session, of ten and of a hundred unchanged ones and of ten with one body edited each, on 400
 classes with 2,000 methods, and of three unchanged ones of projects of other shapes, each in form 1 and in form 2, beside
-`sha256sum` of the files and `mjrg scratch`, in one run, and tells how much memory it has at most. Nothing is asserted."""
+`sha256sum` of the files and `mjrg scratch`, in one run, and says how much memory it has at most. Nothing is asserted."""
 import argparse
 import sys
 import tempfile

@@ -12,7 +12,7 @@ are. All are without faults.
 Prints a table for each family: the least seconds of some runs, the most memory that one of them had, in MB and in bytes for
 each byte of source, and below them the exponents of time and of memory. An exponent is the slope of the straight line that
 fits the logarithms of the costs best over those of the sizes: bytes of source in the first family, and methods in the second,
-whose bytes are the same. It is 1 where the cost is in proportion. Nothing is asserted.
+whose bytes are the same. It is 1 if the cost is in proportion. Nothing is asserted.
 """
 import argparse
 import json

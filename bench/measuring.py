@@ -1,4 +1,4 @@
-"""Runs a program, and tells how long it took and how much memory it had."""
+"""Runs a program, and says how long it took and how much memory it had."""
 import collections
 import multiprocessing
 import os

@@ -8,7 +8,7 @@ audit of three unchanged sessions, which the older one has written. The turns be
 line each has the least seconds of both, and how many times as long the newer one takes. Nothing is asserted.
 
 With --instructions each runs once under valgrind, which counts instructions: they are the same in each run, whatever else the
-machine does, and tell nothing of memory and devices.
+machine does, and say nothing of memory and devices.
 """
 import argparse
 import re

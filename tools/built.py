@@ -1,4 +1,4 @@
-"""What the tools that run a built program share: which one it is, how it is run, and how they tell what passed."""
+"""What the tools that run a built program share: which one it is, how it is run, and how they say what passed."""
 import argparse
 import os
 import re

@@ -2,7 +2,7 @@
 
 Most of what is written is right, since phrases are made by the types that stand there, and some of it is at fault:
 names that aren't declared, types that aren't accepted, cycles of classes, repeated names, files that are no sentence.
-Where a class overrides a method it returns the same type, a class below it or above it, or any other type.
+If a class overrides a method it returns the same type, a class below it or above it, or any other type.
 """
 import copy
 import random

@@ -2,7 +2,7 @@
 # ci.sh STORE BRANCH FILE..
 # Checks a project in a CI job, with one cache for each branch below STORE, which another machine may have written. A new branch
 # begins with a copy of main's cache. The cache is audited before it is used, and deleted once it is long or large. The status is
-# 0 without diagnostics, 1 with some, and 2 or more where the job couldn't be done.
+# 0 without diagnostics, 1 with some, and 2 or more if the job couldn't be done.
 here=$(dirname "$0")
 store=$1
 branch=$2

@@ -1,6 +1,6 @@
 #!/bin/sh
 # prune.sh CACHE SESSIONS KIB
-# Keeps a cache small: deletes it where its last chain has so many sessions or more, or where it takes more than so many KiB. The
+# Keeps a cache small: deletes it if its last chain has SESSIONS sessions or more, or if it takes more than KIB KiB. The
 # next check begins a new one, and runs everything once.
 cache=$1
 [ -d "$cache" ] || exit 0

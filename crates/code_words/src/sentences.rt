@@ -9,7 +9,7 @@ macro_rules! concat_sentences {
         $crate::concat_sentences!(@ [$($done)* $text,] $($more)*)
     };
     (@ [$($done:tt)*] E101, $($more:tt)*) => {
-        $crate::concat_sentences!(@ [$($done)* "the file is no sentence of the grammar, or it is too long or too deep",] $($more)*)
+        $crate::concat_sentences!(@ [$($done)* "the file can't be parsed, or it is too long or too deep",] $($more)*)
     };
     (@ [$($done:tt)*] E102, $($more:tt)*) => {
         $crate::concat_sentences!(@ [$($done)* "no file that can be parsed has a main class",] $($more)*)
@@ -150,7 +150,7 @@ macro_rules! concat_sentences {
         $crate::concat_sentences!(@ [$($done)* "there is no file",] $($more)*)
     };
     (@ [$($done:tt)*] R14_2, $($more:tt)*) => {
-        $crate::concat_sentences!(@ [$($done)* "file K is none of a session, and WHY is its refusal, 11.1 to 11.13",] $($more)*)
+        $crate::concat_sentences!(@ [$($done)* "file K is no session's file, and WHY is its refusal, 11.1 to 11.13",] $($more)*)
     };
     (@ [$($done:tt)*] R14_3, $($more:tt)*) => {
         $crate::concat_sentences!(@ [$($done)* "the number isn't K, or the link isn't the SHA-256 of the file before",] $($more)*)
@@ -192,7 +192,7 @@ macro_rules! concat_sentences {
         $crate::concat_sentences!(@ [$($done)* "the last session's files aren't those of the project",] $($more)*)
     };
     (@ [$($done:tt)*] R14_17, $($more:tt)*) => {
-        $crate::concat_sentences!(@ [$($done)* "record N is green across profiles, and its kind goes by the profile",] $($more)*)
+        $crate::concat_sentences!(@ [$($done)* "record N is green and goes by the profile, but the session before is of the other one",] $($more)*)
     };
     ($($all:tt)*) => { $crate::concat_sentences!(@ [] $($all)*) };
 }

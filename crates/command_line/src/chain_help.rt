@@ -8,16 +8,16 @@ With --source the chain is accepted only if its last session is one of just thes
 order.
 
 Standard output:
-  the answer of the last session, as of scratch: the diagnostics of the project, and then each class
-  with its members and its diagnostics
+  the answer of the last session, as scratch prints it: the diagnostics of the project, and then
+  each class with its members and its diagnostics
 
 Standard error:
-  FILE: session K, E executed, G green  with --progress, of each session file as soon as it is taken,
+  FILE: session K, E executed, G green  with --progress, for each session file as soon as it is taken,
                                         before all else
   accepted: S sessions, R runs          if no refusal was found; R records were run again
   or why there is no answer:
   error: WHY                    the command line is invalid
-  cannot read FILE              the file can't be read; of a source it is said before any session file
+  cannot read FILE              the file can't be read; source files are read before any session file
                                 is opened
   cannot write standard output  the answer is missing there, or the rest of it
   out of memory                 the system refused memory
@@ -26,7 +26,7 @@ Standard error:
   lists record N, with its key and its edges, in the line that begins with N
 
   3.1, 3.3 or 3.4                 the sources are no project; 'mjrg help scratch' says why
-  14.2 File(K, WHY)               the file is none of a session; 'mjrg help show' lists each WHY
+  14.2 File(K, WHY)               it is no session's file; 'mjrg help show' lists each WHY
   14.3 BrokenLink(K)              its number isn't K, or its link isn't the SHA-256 of the file before
   14.4 NoFiles(K)                 it has no record of the names of its files
   14.5 MissingSource(K, F)        it has no bytes of this file
@@ -48,7 +48,7 @@ Examples:
   mjrg audit --source M.java .mjrg/c0000/*.mjrg
                                   the same, but the last one has to be of M.java alone
   mjrg audit --progress .mjrg/c0000/*.mjrg
-                                  the same as the first, with a line of each session
+                                  the same as the first, with a line for each session
 
 Exit status:
   0  the chain is accepted, with diagnostics or without, or help was asked for
@@ -63,7 +63,7 @@ The files are those of a chain of sessions, or its first ones. Each is read afte
 the last is printed. A file of form 1 can be read alone.
 
 Standard output:
-  session K version V records R, and then a line for each record, its parts parted by one space:
+  session K version V records R, and then a line for each record, its parts separated by a space:
   its index, its kind, its class or file and its method ('-' if there is none), its mark, its
   edges (the indices of the records that it read), and the fingerprint of its result, a SHA-256
 
@@ -80,14 +80,14 @@ Standard error, if there is no answer:
   cannot write standard output  the text is missing there, or the rest of it
   out of memory                 the system refused memory
   refused: and the first refusal, of the first file that is refused. N is the index of the record and
-  I the place of its edge, both counted from 0
+  J the place of its edge, both counted from 0
 
-  11.1 BadMagic         the file doesn't begin as one of a session
+  11.1 BadMagic         the file doesn't begin as a session's does
   11.2 Version          it is of another version
   11.3 Truncated        it ends too early
   11.4 BadDigest        its last bytes aren't the SHA-256 of all in front of them
   11.5 KeyOrder(N)      the record's key isn't greater than the one before
-  11.6 BadEdge(N, I)    the edge leads to no record before it of lower rank, or stands there twice
+  11.6 BadEdge(N, J)    the edge leads to no record before it of lower rank, or stands there twice
   11.7 Result(N)        the result isn't spelled as one of its kind, or has another fingerprint
   11.8 InputKind(N)     the record is marked as an input and is none, or the other way round
   11.9 Trailing         bytes stand behind its end
@@ -131,8 +131,8 @@ Standard output:
   KEY: nothing changed, same result    none is red, and it was executed without need
   KEY: nothing changed, another result
 
-  With the same result as before the query is cut off: what reads it isn't red through it. The last
-  line counts all this:
+  A query with the same result as before is cut off: nothing is executed because of it. The last line
+  counts all this:
 
   session K: N inputs changed, E executed, C of them cut off, G green
 
@@ -143,7 +143,7 @@ Standard output:
   KEY: same                            an input that is as before
   KEY: gone                            a record that isn't there any more
 
-Standard error, if there is no answer: as of show
+Standard error, if there is no answer: as show writes it
 
 Examples:
   mjrg why .mjrg/c0000/*.mjrg     why the last session of the first chain executed what it executed
@@ -151,7 +151,7 @@ Examples:
                                   why it checked this body
 
 Exit status:
-  0  the session is told of, or help was asked for
+  0  the lines are printed, or help was asked for
   2  an invalid command line, a file that can't be read, a refused file, an unknown KEY, or a stream
      that can't be written
   4  out of memory";

@@ -13,7 +13,7 @@ pub(crate) const VERSION: &str = "0.1.0\nsession files: forms 1 and 2\nlanguage:
 /// What stands below the program's help.
 pub(crate) const STATUSES: &str = "\
 Standard output has the answer. Standard error has the diagnostics and the counts, or why there is
-no answer. 'mjrg help COMMAND' tells more of each command.
+no answer. 'mjrg help COMMAND' says more of each command.
 
 Examples:
   mjrg scratch src/*.java               check the project of these files
@@ -61,8 +61,8 @@ Standard error:
             "  cannot write standard output      the answer, or the rest of it, can't be written there
   out of memory                     the system refused memory
 
-With --messages the sentence of each diagnostic stands behind its code, and the line of its place
-below it, with a caret and with 4 spaces in front of both:
+With --messages the sentence of each diagnostic stands behind its code. Below stands the line of the
+source file with the place, and a caret below the place, both behind 4 spaces:
 
   M.java:3:7: E306: 'this' stands in main
         x = this;
@@ -208,11 +208,11 @@ pub(crate) const FORM: &str = "The form in which the session is written, 1 or 2 
 
 /// What `--messages` is.
 pub(crate) const MESSAGES: &str =
-    "Write its sentence behind the code of each diagnostic, and its line with a caret below";
+    "Write each diagnostic's sentence behind its code, and below it its source line with a caret";
 
 /// What the FILE of `--source` is.
 pub(crate) const SOURCE: &str =
-    "A source file; the last session has to be of just those given so, in their order";
+    "A source file; the last session has to be of just the files given so, in this order";
 
 /// What `--progress` is.
 pub(crate) const PROGRESS: &str = "Write a line for each session file as soon as it is taken";
@@ -222,41 +222,41 @@ pub(crate) const DOT: &str = "Print the graph of the session for Graphviz";
 
 /// What the KEY of `show --of` is.
 pub(crate) const DOT_OF: &str =
-    "Only this record of the graph, and what lies within it; wants --dot";
+    "Print only this record, what it reads, what that reads, and so on; needs --dot";
 
 /// What the KEY of `why --of` is.
-pub(crate) const WHY_OF: &str = "Only why this record was executed, down to an input";
+pub(crate) const WHY_OF: &str = "Say only why this record was executed, down to an input";
 
 const CHECK: &str = help_of_project!(
     "\
 The project is checked over the previous session, which is the last one in the cache: a result is
 taken over as green if no result that it was made from has changed, and all else is executed. The
-session that comes of it is written to the cache. What is taken over is believed; 'mjrg audit' tests
-a cache that you don't trust. A cache may be deleted at any time. Over a session of the other profile
-the own declarations of each class are checked anew, and all else as ever.
+new session is written to the cache. What is taken over is believed; 'mjrg audit' tests a cache that
+you don't trust. A cache may be deleted at any time. If the previous session is of the other profile
+the declarations of each class are checked again, and everything else is compared as ever.
 
 The sessions stand in chains, DIR/c0000/s0000.mjrg, DIR/c0000/s0001.mjrg and so on. The last one of
-the highest chain is read; other names are passed over, and what is missing is made. The next chain,
-DIR/c0001, begins with no session if that file is refused or its chain is full. No more chains
-are begun behind DIR/c9999. A session of form 1 has all results in its file. In form 2 what is green has
-none there: it is read after the files before it, from the last one of form 1 on.
+the highest chain is read; other names are passed over, and what is missing is made. If that file is
+refused, or its chain is full, the check has no previous session and begins the next chain, DIR/c0001;
+the last one is DIR/c9999. A session's file has all results in form 1. In form 2 it leaves out those
+that are green, and is read after the files before it, from the last one of form 1 on.
 
 Several workers run in a thread each and share one table behind a lock; one alone needs neither.
-More than one makes a first check somewhat faster, and one with few changes no faster. Over an empty
-or an audited cache the session is the same, however many there are, unless two different results
-share a fingerprint.
+Several make a first check somewhat faster, but not a check with few changes. Over an empty or an
+audited cache the session is the same, however many there are, unless two different results share a
+fingerprint.
 ",
     "  note: PATH refused: REFUSAL       a file that is read is refused, as 11.4 BadDigest;
                                     'mjrg help show' lists each REFUSAL
-  note: PATH refused: number        its number isn't that of its name
-  note: PATH full                   its chain has no place for another session
+  note: PATH refused: number        the session's number isn't that of the file's name
+  note: PATH full                   the chain has no place for another session
   and then
 ",
     "  session K: E executed, G green    session K was written, with E executed records and G green ones
 ",
     "  cannot read PATH                  a session's file can't be read
   cannot read DIR                   the cache, or the folder of a chain in it, can't be listed
-  cannot write PATH                 the session's file can't be made, or not written to its end
+  cannot write PATH                 the session's file can't be made, or can't be written to its end
   cannot write DIR                  the cache has no place for another chain
 ",
     "

@@ -187,7 +187,7 @@ fn show_words(
     let dot = flag(given, DOT);
     let of = text(alloc, given, OF)?;
     if of.is_some() && !dot {
-        return Err(refused(alloc, "error: --of wants --dot\n"));
+        return Err(refused(alloc, "error: --of needs --dot\n"));
     }
     Ok(Words::Show(ShowWords { dot, of, files }))
 }
@@ -204,7 +204,7 @@ fn why_words(alloc: Global, given: &ArgMatches<'_>, files: Vec<String>) -> Resul
 }
 
 fn unreadable(alloc: Global) -> WordsFault {
-    refused(alloc, "error: the words were not read\n")
+    refused(alloc, "error: the arguments were not read\n")
 }
 
 // The words are refused with this text.

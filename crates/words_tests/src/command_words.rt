@@ -513,12 +513,12 @@ const TOLD: &[(&[&str], bool, &str)] = &[
     (
         &["mjrg", "show", "--of", "Answer", "s0"],
         false,
-        "error: --of wants --dot\n",
+        "error: --of needs --dot\n",
     ),
     (
         &["mjrg", "show", "--of=", "s0"],
         false,
-        "error: --of wants --dot\n",
+        "error: --of needs --dot\n",
     ),
 ];
 

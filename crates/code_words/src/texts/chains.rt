@@ -6,7 +6,7 @@ const R14_1: &str = concat_sentences!(
     R14_1,
     "
   rule     a chain has at least one session
-  example  a library is handed no file; the program refuses such words before
+  example  a library call gets no file; the program refuses such a command line before
   do       name the files of the chain, from its first session on
 ",
 );
@@ -16,9 +16,9 @@ const R14_2: &str = concat_sentences!(
     R14_2,
     "
   rule     each file of a chain is that of a session. K is its index among the files, from 0, and
-           WHY says what is wrong with it: mjrg explain tells more of its number
+           WHY says what is wrong with it: mjrg explain says more of its number
   example  14.2 File(1, 11.4 BadDigest): a byte of the second file was changed
-  do       do what is said of WHY, and don't trust the answer of the chain until then
+  do       do what mjrg explain says of WHY, and don't trust the answer of the chain until then
 ",
 );
 
@@ -39,7 +39,7 @@ const R14_4: &str = concat_sentences!(
     "
   rule     a session has the names of the project's files as an input. K is the index of the
            session, from 0
-  example  a file that was put together by other means has no records
+  example  a file that no check wrote has no records
   do       don't trust the answer of the chain, and begin one in a new folder
 ",
 );
@@ -157,8 +157,8 @@ const R14_15: &str = concat_sentences!(
     "14.15 SourcesDiffer: ",
     R14_15,
     "
-  rule     where the files of a project are given, those of the last session are the same: their
-           names, in this order, and their bytes
+  rule     if the files of a project are given, those of the last session are the same: their names,
+           in this order, and their bytes
   example  a source file was changed after the last check
   do       check the files as they are now, and audit the chain with the session that this adds
 ",
@@ -168,8 +168,8 @@ const R14_17: &str = concat_sentences!(
     "14.17 GreenAcrossProfiles(K, N): ",
     R14_17,
     "
-  rule     a kind that goes by the profile, as CheckClass, isn't taken over from a session of
-           another. K is the index of the session, N of its record, from 0
+  rule     a record that goes by the profile, as that of CheckClass, isn't taken over from a session
+           of the other profile. K is the index of the session, N of its record, from 0
   example  a session of profile 2 takes over a CheckClass of a session of profile 1 as green
   do       don't trust the answer of the chain, and begin one in a new folder
 ",

@@ -49,7 +49,7 @@ const R11_5: &str = concat_sentences!(
     "
   rule     the records stand in the order of their keys, and no key has two. N is the record's
            index, from 0
-  example  a file that was put together by other means has two records of one key
+  example  a file that no check wrote has two records of one key
   do       no check writes this: don't use the file, and let a check begin the next chain
 ",
 );
@@ -60,7 +60,7 @@ const R11_6: &str = concat_sentences!(
     "
   rule     an edge is the index of a record before its own, of lower rank, and no record has it
            twice. N is the record's index, and J the edge's place in it, from 0
-  example  a file that was put together by other means has an edge to a later record
+  example  a file that no check wrote has an edge to a later record
   do       no check writes this: don't use the file, and let a check begin the next chain
 ",
 );
@@ -71,7 +71,7 @@ const R11_7: &str = concat_sentences!(
     "
   rule     the bytes of a result are those that a check writes for it, and their SHA-256 is the
            record's fingerprint. N is the record's index, from 0
-  example  a file that was put together by other means has a result, and the fingerprint of another
+  example  a file that no check wrote has a result, and the fingerprint of another
   do       no check writes this: don't use the file, and let a check begin the next chain
 ",
 );
@@ -82,7 +82,7 @@ const R11_8: &str = concat_sentences!(
     "
   rule     the names of the files and their bytes have the mark Input, and nothing else has it. N is
            the record's index, from 0
-  example  a file that was put together by other means marks a query as an input
+  example  a file that no check wrote marks a query as an input
   do       no check writes this: don't use the file, and let a check begin the next chain
 ",
 );
@@ -93,7 +93,7 @@ const R11_9: &str = concat_sentences!(
     "
   rule     a file ends with the SHA-256 behind its last record
   example  two files were written one behind the other, or a line feed was added
-  do       take away the bytes behind the end; if there is doubt, let a check begin the next chain
+  do       take away the bytes behind the end; if in doubt, let a check begin the next chain
 ",
 );
 
@@ -103,7 +103,7 @@ const R11_11: &str = concat_sentences!(
     "
   rule     a record has one of the 13 kinds and one of the three marks, and a class, a method or a
            file's name just where its kind has one. N is the record's index, from 0
-  example  a file that was put together by other means has a record of kind 13
+  example  a file that no check wrote has a record of kind 13
   do       no check writes this: don't use the file, and let a check begin the next chain
 ",
 );
@@ -113,7 +113,7 @@ const R11_12: &str = concat_sentences!(
     R11_12,
     "
   rule     the sessions of a chain have the numbers 0 to 9,999
-  example  a file that was put together by other means says that its number is 10,000
+  example  a file that no check wrote says that its number is 10,000
   do       no check writes this: don't use the file, and let a check begin the next chain
 ",
 );

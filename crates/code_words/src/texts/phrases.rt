@@ -89,7 +89,7 @@ const E309: &str = concat_sentences!(
     "
   rule     only an array of ints has a length. A method of the name length is called as e.length()
   example  x = this.length;
-  do       ask an array, or call a method that tells the length of the object
+  do       ask an array, or call a method that returns the length of the object
 ",
 );
 
@@ -128,7 +128,7 @@ const E313: &str = concat_sentences!(
     "E313: ",
     E313,
     "
-  rule     an argument has the type of its parameter. Where both are classes it may be a subclass
+  rule     an argument has the type of its parameter. If both are classes it may be a subclass
   example  class A { public int f(int x) { return this.f(true); } }
   do       write a value of the parameter's type, or change that type
 ",
@@ -178,7 +178,7 @@ const E318: &str = concat_sentences!(
     "E318: ",
     E318,
     "
-  rule     a value has the type of the variable that it is assigned to. Where both are classes it
+  rule     a value has the type of the variable that it is assigned to. If both are classes it
            may be a subclass. What is assigned to x[e] is an int
   example  class A { public int f(int x) { x = true; return x; } }
   do       assign a value of the variable's type, or change that type
@@ -189,7 +189,7 @@ const E319: &str = concat_sentences!(
     "E319: ",
     E319,
     "
-  rule     the returned value has the return type. Where both are classes it may be a subclass
+  rule     the returned value has the return type. If both are classes it may be a subclass
   example  class A { public int f() { return true; } }
   do       return a value of the return type, or change that type
 ",

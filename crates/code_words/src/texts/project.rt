@@ -8,7 +8,7 @@ const E101: &str = concat_sentences!(
   rule     a file is cut into tokens, and the grammar has to derive these. It has at most 1,048,576
            bytes, no name of more than 255, and no phrase of a level over 500
   example  class {
-  do       mend the text at the place or before it; where there is none, shorten or flatten it
+  do       mend the text at the place or before it; if no place is reported, shorten or flatten it
 ",
 );
 
@@ -29,7 +29,7 @@ const E103: &str = concat_sentences!(
   rule     a project has one main class. It is that of the first file that has one
   example  // in a second file
            class N { public static void main(String[] a) { System.out.println(1); } }
-  do       leave one of the two files out, or take its main class away
+  do       leave out one of the two files, or take the main class out of one
 ",
 );
 

@@ -17,7 +17,7 @@ const R3_2: &str = concat_sentences!(
     R3_2,
     "
   rule     a project has at least one file
-  example  a library is handed no file; the program refuses such words before
+  example  a library call gets no file; the program refuses such a command line before
   do       name the files of the project
 ",
 );
