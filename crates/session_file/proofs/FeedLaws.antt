@@ -7,12 +7,12 @@ use Rattle.std.proofs.lemmas.Bool.{cases_lt, le-ltb, lt-ltb}
 use Rattle.std.proofs.lemmas.List.{take_at, drop_at, length-append, get_or-append_right, append-nil, take-append-drop, take-append-le, length-take-le}
 use Rattle.std.proofs.Math.ListN.{get_or-append}
 use borrow.Rule.Slice.PartMut.{put_mid, post_of}
-use Rattle.sha2.specs.Hashers.{Holds256}
+use Rattle.session_file.specs.Hashing.{HashHolds}
 use Rattle.byte_readers.specs.Lawful.{IsBytes}
 use Rattle.byte_readers.specs.Reading.{byte_at, number_at, two_at, four_at, eight_at}
 use Rattle.session_file.specs.declared.fault.FileFault.{FileFault}
 use Rattle.session_file.specs.declared.fault.FileFault.TheVariants.{Truncated}
-use Rattle.devices.specs.declared.hashing.HashingSink.{HashingSink}
+use Rattle.session_file.specs.declared.reading.body_hash.BodyHash.{BodyHash}
 use Rattle.session_file.specs.declared.reading.feed_fault.FeedFault.{FeedFault}
 use Rattle.session_file.specs.declared.reading.feed_fault.FeedFault.TheVariants as faults
 use Rattle.devices.specs.Devices.{MovesBytes}
@@ -38,18 +38,18 @@ given_then {a} {b} {c} {p} {q} f g = record {
       };
 }
 
-pub moved_none : (a : List ℕ → Type 0) (h : HashingSink) → Moved a a h h []
+pub moved_none : (a : List ℕ → Type 0) (h : BodyHash) → Moved a a h h []
 moved_none a h = record {
   fits = λ i. omega arith;
   given = record { left = λ bytes has. record { rest = bytes; whole = refl; holds = has } };
-  hashed = λ front is. subst (λ (xs : List ℕ). Holds256 h.hasher xs) (sym (append-nil front)) is;
+  hashed = λ front is. subst (λ (xs : List ℕ). HashHolds h xs) (sym (append-nil front)) is;
 }
 
-pub moved_then : {a b c : List ℕ → Type 0} {x y z : HashingSink} {p q : List ℕ} → Moved a b x y p → Moved b c y z q → Moved a c x z (p ++ q)
+pub moved_then : {a b c : List ℕ → Type 0} {x y z : BodyHash} {p q : List ℕ} → Moved a b x y p → Moved b c y z q → Moved a c x z (p ++ q)
 moved_then {a} {b} {c} {x} {y} {z} {p} {q} f g = record {
   fits = bytes_both p q f.fits g.fits;
   given = given_then f.given g.given;
-  hashed = λ front h. subst (λ (xs : List ℕ). Holds256 z.hasher xs) (append_assoc front p q) (g.hashed (front ++ p) (f.hashed front h));
+  hashed = λ front h. subst (λ (xs : List ℕ). HashHolds z xs) (append_assoc front p q) (g.hashed (front ++ p) (f.hashed front h));
 }
 
 -- what was read, by the bytes that were held
@@ -58,7 +58,7 @@ pub record At {A : Type 0} (new : List ℕ → Type 0) (step : Parser A) (a : A)
   pub is : step bytes ≡ Ok (a, rest)
   pub holds : new rest
 
-pub took_at : {A : Type 0} {old new : List ℕ → Type 0} {g h : HashingSink} {step : Parser A} {a : A} → Took old new g h step a → (bytes : List ℕ) → old bytes → At new step a bytes
+pub took_at : {A : Type 0} {old new : List ℕ → Type 0} {g h : BodyHash} {step : Parser A} {a : A} → Took old new g h step a → (bytes : List ℕ) → old bytes → At new step a bytes
 took_at {A} {old} {new} {g} {h} {step} {a} took bytes has =
     let l = took.moved.given.left bytes has in
     record { rest = l.rest; is = ap step l.whole ∙ took.reads l.rest; holds = l.holds }
@@ -83,7 +83,7 @@ number_reads w part rest len =
 number_ends : (w : Width) (bytes : List ℕ) → length bytes < byte_len w → or_truncated (number_at w bytes) ≡ Err Truncated
 number_ends w bytes lt = rw (lt-ltb _ _ lt) refl
 
-pub eight_took : {old new : List ℕ → Type 0} {g h : HashingSink} {part : List ℕ} (n : ℕ) → Moved old new g h part → length part ≡ 8 → n ≡ big_number 8 part → Took old new g h (λ bytes. or_truncated (eight_at bytes)) n
+pub eight_took : {old new : List ℕ → Type 0} {g h : BodyHash} {part : List ℕ} (n : ℕ) → Moved old new g h part → length part ≡ 8 → n ≡ big_number 8 part → Took old new g h (λ bytes. or_truncated (eight_at bytes)) n
 unfolding eight_at
 eight_took {old} {new} {g} {h} {part} n moved len is = record { part = part; moved = moved; reads = λ rest. rw (is, eight_is part) (number_reads w64 part rest len) }
 
@@ -91,7 +91,7 @@ pub eight_stops : (old : List ℕ → Type 0) (stop : FeedFault) → FillsNot ol
 unfolding eight_at
 eight_stops old stop h = stops_short stop h (λ s. record { breach = λ bytes has. number_ends w64 bytes (s.short bytes has) })
 
-pub four_took : {old new : List ℕ → Type 0} {g h : HashingSink} {part : List ℕ} (n : ℕ) → Moved old new g h part → length part ≡ 4 → n ≡ big_number 4 part → Took old new g h (λ bytes. or_truncated (four_at bytes)) n
+pub four_took : {old new : List ℕ → Type 0} {g h : BodyHash} {part : List ℕ} (n : ℕ) → Moved old new g h part → length part ≡ 4 → n ≡ big_number 4 part → Took old new g h (λ bytes. or_truncated (four_at bytes)) n
 unfolding four_at
 four_took {old} {new} {g} {h} {part} n moved len is = record { part = part; moved = moved; reads = λ rest. rw (is, four_is part) (number_reads w32 part rest len) }
 
@@ -99,7 +99,7 @@ pub four_stops : (old : List ℕ → Type 0) (stop : FeedFault) → FillsNot old
 unfolding four_at
 four_stops old stop h = stops_short stop h (λ s. record { breach = λ bytes has. number_ends w32 bytes (s.short bytes has) })
 
-pub two_took : {old new : List ℕ → Type 0} {g h : HashingSink} {part : List ℕ} (n : ℕ) → Moved old new g h part → length part ≡ 2 → n ≡ big_number 2 part → Took old new g h (λ bytes. or_truncated (two_at bytes)) n
+pub two_took : {old new : List ℕ → Type 0} {g h : BodyHash} {part : List ℕ} (n : ℕ) → Moved old new g h part → length part ≡ 2 → n ≡ big_number 2 part → Took old new g h (λ bytes. or_truncated (two_at bytes)) n
 unfolding two_at
 two_took {old} {new} {g} {h} {part} n moved len is = record { part = part; moved = moved; reads = λ rest. rw (is, two_is part) (number_reads w16 part rest len) }
 
@@ -116,7 +116,7 @@ no_bytes : (bytes : List ℕ) → length bytes < 1 → or_truncated (byte_at byt
 no_bytes [] lt = refl
 no_bytes (b ∷ bytes) lt = absurd (omega (arith, lt))
 
-pub byte_took : {old new : List ℕ → Type 0} {g h : HashingSink} {part : List ℕ} (n : ℕ) → Moved old new g h part → length part ≡ 1 → n ≡ get_or part 0 0 → Took old new g h (λ bytes. or_truncated (byte_at bytes)) n
+pub byte_took : {old new : List ℕ → Type 0} {g h : BodyHash} {part : List ℕ} (n : ℕ) → Moved old new g h part → length part ≡ 1 → n ≡ get_or part 0 0 → Took old new g h (λ bytes. or_truncated (byte_at bytes)) n
 byte_took {old} {new} {g} {h} {part} n moved len is = record { part = n ∷ []; moved = subst (Moved old new g h) (one_byte part n len is) moved; reads = λ rest. refl }
 
 pub byte_stops : (old : List ℕ → Type 0) (stop : FeedFault) → FillsNot old 1 stop → StopsAs old stop (λ bytes. or_truncated (byte_at bytes))
@@ -134,14 +134,14 @@ pub bytes_end : (n : ℕ) (bytes : List ℕ) → length bytes < n → slice_at n
 unfolding slice_at
 bytes_end n bytes lt = rw (lt-ltb _ _ lt) refl
 
-pub bytes_took : {old new : List ℕ → Type 0} {g h : HashingSink} {part : List ℕ} (n : ℕ) → Moved old new g h part → length part ≡ n → Took old new g h (slice_at n) part
+pub bytes_took : {old new : List ℕ → Type 0} {g h : BodyHash} {part : List ℕ} (n : ℕ) → Moved old new g h part → length part ≡ n → Took old new g h (slice_at n) part
 bytes_took {old} {new} {g} {h} {part} n moved len = record { part = part; moved = moved; reads = λ rest. bytes_reads n part rest len }
 
 pub bytes_stops : (old : List ℕ → Type 0) (n : ℕ) (stop : FeedFault) → FillsNot old n stop → StopsAs old stop (slice_at n)
 bytes_stops old n stop h = stops_short stop h (λ s. record { breach = λ bytes has. bytes_end n bytes (s.short bytes has) })
 
 -- where some of them were taken before
-pub bytes_stop_behind : {old mid : List ℕ → Type 0} {g h : HashingSink} {part : List ℕ} (n m : ℕ) (stop : FeedFault) → Moved old mid g h part → length part + m ≤ n → FillsNot mid m stop → StopsAs old stop (slice_at n)
+pub bytes_stop_behind : {old mid : List ℕ → Type 0} {g h : BodyHash} {part : List ℕ} (n m : ℕ) (stop : FeedFault) → Moved old mid g h part → length part + m ≤ n → FillsNot mid m stop → StopsAs old stop (slice_at n)
 bytes_stop_behind {old} {mid} {g} {h} {part} n m stop moved le f =
     stops_short stop f (λ s. record {
       breach = λ bytes has.
@@ -151,7 +151,7 @@ bytes_stop_behind {old} {mid} {g} {h} {part} n m stop moved le f =
 
 -- ---- a text
 
-pub text_took : {old mid new : List ℕ → Type 0} {g h k : HashingSink} {part : List ℕ} (n : ℕ) → Took old mid g h (λ bytes. or_truncated (byte_at bytes)) n → Moved mid new h k part → length part ≡ n → Took old new g k short_text_at part
+pub text_took : {old mid new : List ℕ → Type 0} {g h k : BodyHash} {part : List ℕ} (n : ℕ) → Took old mid g h (λ bytes. or_truncated (byte_at bytes)) n → Moved mid new h k part → length part ≡ n → Took old new g k short_text_at part
 unfolding short_text_at
 text_took {old} {mid} {new} {g} {h} {k} {part} n took moved len = record {
   part = took.part ++ part;
@@ -163,7 +163,7 @@ pub text_stops_first : (old : List ℕ → Type 0) (stop : FeedFault) → StopsA
 unfolding short_text_at
 text_stops_first old stop h = stops_by stop h (λ fault b. record { breach = λ bytes has. rw (b.breach bytes has) refl })
 
-pub text_stops : {old mid : List ℕ → Type 0} {g h : HashingSink} (n : ℕ) (stop : FeedFault) → Took old mid g h (λ bytes. or_truncated (byte_at bytes)) n → FillsNot mid n stop → StopsAs old stop short_text_at
+pub text_stops : {old mid : List ℕ → Type 0} {g h : BodyHash} (n : ℕ) (stop : FeedFault) → Took old mid g h (λ bytes. or_truncated (byte_at bytes)) n → FillsNot mid n stop → StopsAs old stop short_text_at
 unfolding short_text_at
 text_stops n stop took f =
     stops_short stop f (λ s. record {
@@ -200,25 +200,25 @@ given_more {a} {b} room at c before sub k n f moves le_at le_n = record {
 
 -- ---- one after the other
 
-pub leads_none : {A : Type 0} (a : List ℕ → Type 0) (x : HashingSink) (p : List ℕ → Result A FileFault) → Leads a a x x p p
+pub leads_none : {A : Type 0} (a : List ℕ → Type 0) (x : BodyHash) (p : List ℕ → Result A FileFault) → Leads a a x x p p
 leads_none a x p = record { part = []; moved = moved_none a x; leads = λ rest. refl }
 
-pub leads_step : {A B : Type 0} {a b c : List ℕ → Type 0} {x y z : HashingSink} {p q : List ℕ → Result A FileFault} {step : Parser B} {v : B} (r : List ℕ → Result A FileFault) → Leads a b x y p q → Took b c y z step v → ((bytes rest : List ℕ) → step bytes ≡ Ok (v, rest) → q bytes ≡ r rest) → Leads a c x z p r
+pub leads_step : {A B : Type 0} {a b c : List ℕ → Type 0} {x y z : BodyHash} {p q : List ℕ → Result A FileFault} {step : Parser B} {v : B} (r : List ℕ → Result A FileFault) → Leads a b x y p q → Took b c y z step v → ((bytes rest : List ℕ) → step bytes ≡ Ok (v, rest) → q bytes ≡ r rest) → Leads a c x z p r
 leads_step {A} {B} {a} {b} {c} {x} {y} {z} {p} {q} r f t h = record {
   part = f.part ++ t.part;
   moved = moved_then f.moved t.moved;
   leads = λ rest. ap p (append_assoc f.part t.part rest) ∙ f.leads (t.part ++ rest) ∙ h (t.part ++ rest) rest (t.reads rest);
 }
 
-pub leads_done : {A : Type 0} {a b : List ℕ → Type 0} {x y : HashingSink} {p : Parser A} {q : Parser A} (v : A) → Leads a b x y p q → ((rest : List ℕ) → q rest ≡ Ok (v, rest)) → Took a b x y p v
+pub leads_done : {A : Type 0} {a b : List ℕ → Type 0} {x y : BodyHash} {p : Parser A} {q : Parser A} (v : A) → Leads a b x y p q → ((rest : List ℕ) → q rest ≡ Ok (v, rest)) → Took a b x y p v
 leads_done v f h = record { part = f.part; moved = f.moved; reads = λ rest. f.leads rest ∙ h rest }
 
-pub leads_breaks : {A : Type 0} {a b : List ℕ → Type 0} {x y : HashingSink} {p q : List ℕ → Result A FileFault} {fault : FileFault} → Leads a b x y p q → HasBreach b q fault → HasBreach a p fault
+pub leads_breaks : {A : Type 0} {a b : List ℕ → Type 0} {x y : BodyHash} {p q : List ℕ → Result A FileFault} {fault : FileFault} → Leads a b x y p q → HasBreach b q fault → HasBreach a p fault
 leads_breaks {A} {a} {b} {x} {y} {p} f h = record {
   breach = λ bytes has.
       let l = f.moved.given.left bytes has in
       ap p l.whole ∙ f.leads l.rest ∙ h.breach l.rest l.holds;
 }
 
-pub leads_halts : {A B : Type 0} {a b : List ℕ → Type 0} {x y : HashingSink} {p q : List ℕ → Result A FileFault} {step : List ℕ → Result B FileFault} (stop : FeedFault) → Leads a b x y p q → StopsAs b stop step → ((bytes : List ℕ) (fault : FileFault) → step bytes ≡ Err fault → q bytes ≡ Err fault) → StopsAs a stop p
+pub leads_halts : {A B : Type 0} {a b : List ℕ → Type 0} {x y : BodyHash} {p q : List ℕ → Result A FileFault} {step : List ℕ → Result B FileFault} (stop : FeedFault) → Leads a b x y p q → StopsAs b stop step → ((bytes : List ℕ) (fault : FileFault) → step bytes ≡ Err fault → q bytes ≡ Err fault) → StopsAs a stop p
 leads_halts stop f h k = stops_by stop h (λ fault e. leads_breaks f (record { breach = λ bytes has. k bytes fault (e.breach bytes has) }))

@@ -24,7 +24,7 @@ use Rattle.sessions.proofs.TermLaws.{terms_again, terms_found, version_fits}
 use Rattle.sessions.specs.Spelling.{start, record_bytes, head_bytes, body_bytes, file_of}
 use Rattle.session_file.specs.declared.fault.FileFault.{FileFault}
 use Rattle.session_file.specs.declared.fault.FileFault.TheVariants.{BadMagic, Version, Number, BadDigest, Trailing}
-use Rattle.session_file.specs.Reading.{or_truncated, slice_at, there, tested, OriginValue, HeadValue, magic, magic_at, head_at, end_at, session_of, records_from, front_after, session_after, file_after, ◌>>=◌}
+use Rattle.session_file.specs.Reading.{or_truncated, slice_at, there, tested, OriginValue, HeadValue, magic, magic_at, head_at, end_at, session_of, records_from, body_after, front_after, session_after, file_after, ◌>>=◌}
 use Rattle.session_file.proofs.ReadLaws.{done, ok_is, bind_ok, bind_is, guard_ok, guard_so, there_ok, tested_ok, tested_is, number_takes, number_again, bytes_takes, bytes_again}
 use Rattle.session_file.proofs.RecordReadLaws.{IsReadOver}
 use Rattle.session_file.proofs.TakenLaws.{told_if_taken, taken_if_told}
@@ -189,34 +189,47 @@ front_taken past bytes h middle records rest before fits eh er =
       front = front_is bytes (body_bytes made) rest all.parts;
     }
 
+-- what is read in front of the end is a session over the previous one
+pub body_takes : (past : Option SessionValue) (bytes : List ℕ) (s : SessionValue) (rest : List ℕ) → IfSome past IsSession → IsBytes bytes → body_after past bytes ≡ Ok (s, rest) → FrontIs past bytes rest s
+unfolding body_after
+body_takes past bytes s rest before fits e =
+    let a = bind_ok (head_at bytes) _ (s, rest) e in
+    let b = bind_ok (records_from (over past a.0.0) [] a.0.0.count a.0.1) _ (s, rest) a.2 in
+    subst (λ (x : SessionValue × List ℕ). FrontIs past bytes x.1 x.0) (ok_is (session_of a.0.0 b.0.0, b.0.1) (s, rest) b.2)
+    (front_taken past bytes a.0.0 a.0.1 b.0.0 b.0.1 before fits a.1 b.1)
+
 -- what is read from the front is a session over the previous one, and its file stands there
 pub front_takes : (past : Option SessionValue) (bytes : List ℕ) (s : SessionValue) (rest : List ℕ) → IfSome past IsSession → IsBytes bytes → front_after past bytes ≡ Ok (s, rest) → IsSession s × IsTakenFrom past s × (bytes ≡ file_of s ++ rest)
 unfolding front_after
 front_takes past bytes s rest before fits e =
-    let a = bind_ok (head_at bytes) _ (s, rest) e in
-    let b = bind_ok (records_from (over past a.0.0) [] a.0.0.count a.0.1) _ (s, rest) a.2 in
+    let b = bind_ok (body_after past bytes) _ (s, rest) e in
     let d = bind_ok (end_at (take (length bytes - length b.0.1) bytes) b.0.1) _ (s, rest) b.2 in
-    let made = session_of a.0.0 b.0.0 in
-    let front = front_taken past bytes a.0.0 a.0.1 b.0.0 b.0.1 before fits a.1 b.1 in
+    let made = b.0.0 in
+    let front = body_takes past bytes made b.0.1 before fits b.1 in
     let end = end_takes (take (length bytes - length b.0.1) bytes) b.0.1 d.0.0 d.0.1 front.takes.rest_fits d.1 in
     subst (λ (x : SessionValue × List ℕ). IsSession x.0 × IsTakenFrom past x.0 × (bytes ≡ file_of x.0 ++ x.1)) (ok_is (made, d.0.1) (s, rest) d.2)
     (front.session, front.taken, front.takes.parts ∙ file_parts made (body_bytes made) b.0.1 d.0.1 refl (end ∙ ap (λ (xs : List ℕ). sha256 xs ++ d.0.1) front.front))
 
-pub front_again : (past : Option SessionValue) (s : SessionValue) (after : List ℕ) → IsSession s → IsTakenFrom past s → front_after past (file_of s ++ after) ≡ Ok (s, after)
-unfolding front_after file_of
-front_again past s after h taken =
+pub body_again : (past : Option SessionValue) (s : SessionValue) (rest : List ℕ) → IsSession s → IsTakenFrom past s → body_after past (body_bytes s ++ rest) ≡ Ok (s, rest)
+unfolding body_after
+body_again past s rest h taken =
     let head : HeadValue = record { terms = s.terms; number = s.number; link = s.link; count = length s.records } in
     let origin = over past head in
     let records = flat_map (record_bytes s.terms.form) s.records in
-    let rest = sha256 (body_bytes s) ++ after in
     let body : head_of head ++ records ≡ body_bytes s = body_parts head s.records refl in
-    let all : (body_bytes s ++ sha256 (body_bytes s)) ++ after ≡ body_bytes s ++ rest = append_assoc (body_bytes s) (sha256 (body_bytes s)) after in
     let regrouped : body_bytes s ++ rest ≡ head_of head ++ (records ++ rest) = ap (λ (xs : List ℕ). xs ++ rest) (sym body) ∙ append_assoc (head_of head) records rest in
-    let front : take (length (body_bytes s ++ rest) - length rest) (body_bytes s ++ rest) ≡ body_bytes s = front_is (body_bytes s ++ rest) (body_bytes s) rest refl in
     let one : head_at (body_bytes s ++ rest) ≡ Ok (head, records ++ rest) = ap head_at regrouped ∙ head_again head (records ++ rest) (record { number = h.number; link = h.link; count = h.few }) in
-    ap (front_after past) all
-    ∙ bind_is (head_at (body_bytes s ++ rest)) _ (head, records ++ rest) one
+    bind_is (head_at (body_bytes s ++ rest)) _ (head, records ++ rest) one
     ∙ bind_is (records_from origin [] (length s.records) (records ++ rest)) _ (s.records, rest) (records_again origin s.records [] rest h.few h.records (told_if_taken past s h taken))
+
+pub front_again : (past : Option SessionValue) (s : SessionValue) (after : List ℕ) → IsSession s → IsTakenFrom past s → front_after past (file_of s ++ after) ≡ Ok (s, after)
+unfolding front_after file_of
+front_again past s after h taken =
+    let rest = sha256 (body_bytes s) ++ after in
+    let all : (body_bytes s ++ sha256 (body_bytes s)) ++ after ≡ body_bytes s ++ rest = append_assoc (body_bytes s) (sha256 (body_bytes s)) after in
+    let front : take (length (body_bytes s ++ rest) - length rest) (body_bytes s ++ rest) ≡ body_bytes s = front_is (body_bytes s ++ rest) (body_bytes s) rest refl in
+    ap (front_after past) all
+    ∙ bind_is (body_after past (body_bytes s ++ rest)) _ (s, rest) (body_again past s rest h taken)
     ∙ bind_is (end_at (take (length (body_bytes s ++ rest) - length rest) (body_bytes s ++ rest)) rest) _ (tt, after) (ap (λ (xs : List ℕ). end_at xs rest) front ∙ end_again (body_bytes s) after)
 
 -- ---- what is read where nothing stands behind it

@@ -9,3 +9,4 @@ pub mod RecordsReadLaws
 pub mod FileLaws
 pub mod FeedLaws
 pub mod StepLaws
+pub mod ThreadLaws

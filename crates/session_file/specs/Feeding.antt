@@ -1,12 +1,12 @@
 -- Reading from a feed: what was taken from it, and what it still holds.
 use Rattle.std.specs.Prelude.{◌≡◌, ℕ, ◌<◌, Bool, true, false, List, ◌++◌, length, Result, Ok, Err}
-use Rattle.sha2.specs.Hashers.{Holds256}
+use Rattle.session_file.specs.Hashing.{HashHolds}
 use Rattle.byte_readers.specs.Lawful.{IsBytes}
 use Rattle.devices.specs.Devices.{one_more}
 use Rattle.session_file.specs.Reading.{Parser}
 use Rattle.session_file.specs.declared.fault.FileFault.{FileFault}
 use Rattle.session_file.specs.declared.fault.FileFault.TheVariants.{Device, Truncated}
-use Rattle.devices.specs.declared.hashing.HashingSink.{HashingSink}
+use Rattle.session_file.specs.declared.reading.body_hash.BodyHash.{BodyHash}
 use Rattle.session_file.specs.declared.reading.feed_fault.FeedFault.{FeedFault}
 use Rattle.session_file.specs.declared.reading.feed_fault.FeedFault.TheVariants as faults
 
@@ -58,20 +58,20 @@ Fills old new before after (Ok a) = (length after ≡ length before) × Given ol
 Fills old new before after (Err stop) = FillsNot old (length before) stop
 
 -- the part was taken, and was put behind what was hashed
-pub record Moved (old new : List ℕ → Type 0) (hash_old hash_new : HashingSink) (part : List ℕ) : Type 0 where
+pub record Moved (old new : List ℕ → Type 0) (hash_old hash_new : BodyHash) (part : List ℕ) : Type 0 where
   pub fits : IsBytes part
   pub given : Given old new part
-  pub hashed : (front : List ℕ) → Holds256 hash_old.hasher front
-      → Holds256 hash_new.hasher (front ++ part)
+  pub hashed : (front : List ℕ) → HashHolds hash_old front
+      → HashHolds hash_new (front ++ part)
 
-abbrev pub Pulls : {A : Type 0} → (List ℕ → Type 0) → (List ℕ → Type 0) → HashingSink → HashingSink
+abbrev pub Pulls : {A : Type 0} → (List ℕ → Type 0) → (List ℕ → Type 0) → BodyHash → BodyHash
     → List ℕ → List ℕ → Result A FeedFault → Type 0
 Pulls old new hash_old hash_new before after (Ok a) =
     (length after ≡ length before) × Moved old new hash_old hash_new after
 Pulls old new hash_old hash_new before after (Err stop) = FillsNot old (length before) stop
 
 -- the value was read from what was taken
-pub record Took {A : Type 0} (old new : List ℕ → Type 0) (hash_old hash_new : HashingSink)
+pub record Took {A : Type 0} (old new : List ℕ → Type 0) (hash_old hash_new : BodyHash)
     (step : Parser A) (a : A) : Type 0 where
   pub part : List ℕ
   pub moved : Moved old new hash_old hash_new part
@@ -88,27 +88,27 @@ StopsAs old _ step = Unit {0}
 
 -- What a function returned, seen by view, is what reading from the feed gives, unless memory ran
 -- out or the device failed.
-abbrev pub Feeds : {X Y : Type 0} → (List ℕ → Type 0) → (List ℕ → Type 0) → HashingSink → HashingSink
+abbrev pub Feeds : {X Y : Type 0} → (List ℕ → Type 0) → (List ℕ → Type 0) → BodyHash → BodyHash
     → (X → Y) → Result X FeedFault → Parser Y → Type 0
 Feeds old new hash_old hash_new view (Ok x) step = Took old new hash_old hash_new step (view x)
 Feeds old new hash_old hash_new view (Err stop) step = StopsAs old stop step
 
 -- so many bytes were taken, and appended to the text
-pub record Appended (old new : List ℕ → Type 0) (hash_old hash_new : HashingSink)
+pub record Appended (old new : List ℕ → Type 0) (hash_old hash_new : BodyHash)
     (before after : List ℕ) (count : ℕ) : Type 0 where
   pub part : List ℕ
   pub moved : Moved old new hash_old hash_new part
   pub size : length part ≡ count
   pub appended : after ≡ before ++ part
 
-abbrev pub Appends : {A : Type 0} → (List ℕ → Type 0) → (List ℕ → Type 0) → HashingSink → HashingSink
+abbrev pub Appends : {A : Type 0} → (List ℕ → Type 0) → (List ℕ → Type 0) → BodyHash → BodyHash
     → List ℕ → List ℕ → ℕ → Result A FeedFault → Type 0
 Appends old new hash_old hash_new before after count (Ok a) =
     Appended old new hash_old hash_new before after count
 Appends old new hash_old hash_new before after count (Err stop) = FillsNot old count stop
 
 -- what p reads is what q reads behind what was taken
-pub record Leads {A : Type 0} (old new : List ℕ → Type 0) (hash_old hash_new : HashingSink)
+pub record Leads {A : Type 0} (old new : List ℕ → Type 0) (hash_old hash_new : BodyHash)
     (p q : List ℕ → Result A FileFault) : Type 0 where
   pub part : List ℕ
   pub moved : Moved old new hash_old hash_new part

@@ -1,5 +1,6 @@
 pub mod Parts
 pub mod Keys
 pub mod Reading
+pub mod Hashing
 pub mod Feeding
 pub mod Records

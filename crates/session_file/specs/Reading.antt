@@ -1,5 +1,5 @@
 -- Reading a session's file from left to right, with the first breach that is met.
-use Rattle.std.specs.Prelude.{◌≡◌, ℕ, zero, suc, ◌-◌, Bool, true, false, not, ◌&&◌, ◌||◌, List, [], ◌∷◌, ◌++◌, length, take, drop, slice_get, Option, Some, None, option_map, Result, Ok, Err, nat_lt, nat_le, bytes_eq, ◌==◌, if◌then◌else◌}
+use Rattle.std.specs.Prelude.{◌≡◌, ◌≢◌, ◌≤◌, ℕ, zero, suc, ◌-◌, Bool, true, false, not, ◌&&◌, ◌||◌, List, [], ◌∷◌, ◌++◌, length, take, drop, slice_get, Option, Some, None, option_map, Result, Ok, Err, nat_lt, nat_le, bytes_eq, ◌==◌, if◌then◌else◌}
 use Rattle.std.specs.Bool.{beq}
 use Rattle.std.specs.Ordering.{is_lt}
 use Rattle.sha2.specs.Sha256.{sha256}
@@ -19,6 +19,7 @@ use Rattle.sessions.specs.declared.terms.Terms.{Terms}
 use Rattle.sessions.specs.Marks.{is_input_mark}
 use Rattle.sessions.specs.Terms.{terms_with, ends_with_print}
 use Rattle.sessions.specs.Sessions.{most_number, RecordValue, SessionValue, Entry, key_at, past_entry}
+use Rattle.sessions.specs.Spelling.{body_bytes}
 use Rattle.session_file.specs.declared.fault.FileFault.{FileFault}
 use Rattle.session_file.specs.declared.fault.FileFault.TheVariants.{BadMagic, Version, Truncated, BadDigest, KeyOrder, BadEdge, Result as BadResult, InputKind, Trailing, Device, BadKey, Number, NoPastResult, OutOfMemory}
 use Rattle.session_file.specs.Keys.{key_with, mark_with}
@@ -253,13 +254,19 @@ session_of head records = record {
   records = records;
 }
 
+-- the session over the previous one with whose file, but for its end, the bytes begin
+unfoldable pub body_after : Option SessionValue → Parser SessionValue
+body_after past bytes = do
+  head ← head_at bytes
+  records ← records_from (record { past = past; form = head.0.terms.form }) [] head.0.count head.1
+  Ok (session_of head.0 records.0, records.1)
+
 -- the session over the previous one with whose file the bytes begin, or the first breach
 unfoldable pub front_after : Option SessionValue → Parser SessionValue
 front_after past bytes = do
-  head ← head_at bytes
-  records ← records_from (record { past = past; form = head.0.terms.form }) [] head.0.count head.1
-  end ← end_at (take (length bytes - length records.1) bytes) records.1
-  Ok (session_of head.0 records.0, end.1)
+  body ← body_after past bytes
+  end ← end_at (take (length bytes - length body.1) bytes) body.1
+  Ok (body.0, end.1)
 
 abbrev pub session_after : Option SessionValue → List ℕ → Result SessionValue FileFault
 session_after past bytes = do
@@ -283,3 +290,24 @@ session_at = session_after None
 
 abbrev pub file_at : List ℕ → Result SessionValue FileFault
 file_at = file_after None
+
+-- ---- pieces of the file
+
+-- whether a session was read whose file ends with these bytes
+abbrev pub EndsWith : SessionValue → List ℕ → Result SessionValue FileFault → Type 0
+EndsWith s end (Ok t) = (t ≡ s) × (end ≡ sha256 (body_bytes s))
+EndsWith s end (Err fault) = (fault ≡ BadDigest) × (end ≢ sha256 (body_bytes s))
+
+-- the session that stands in front of the last bytes, so many, or the first breach
+abbrev pub ReadsBody : Option SessionValue → List ℕ → Result (SessionValue × ℕ) FileFault → Type 0
+ReadsBody past bytes (Ok x) =
+    (x.1 ≤ length bytes) × (body_after past bytes ≡ Ok (x.0, drop (length bytes - x.1) bytes))
+ReadsBody past bytes (Err fault) =
+    IsUnlessMemory {A = SessionValue × List ℕ} (Err fault) (body_after past bytes)
+
+-- what a file comes to of which this session was read, and these bytes are left
+abbrev pub ended_at : SessionValue → List ℕ → Result SessionValue FileFault
+ended_at s bytes = do
+  end ← end_at (body_bytes s) bytes
+  none ← tested (length end.1 == 0) Trailing
+  Ok s

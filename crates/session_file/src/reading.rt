@@ -1,5 +1,7 @@
 //! Sessions from files.
 
+mod body_hash;
+mod by_threads;
 mod edges;
 mod feed_fault;
 mod feeding;
@@ -10,4 +12,5 @@ mod parts;
 mod records;
 mod results;
 
+pub use by_threads::read_after_by;
 pub use files::{read, read_after, read_from, read_from_after, terms_of_start};

@@ -5,9 +5,10 @@ ghost use Rattle.session_file.specs.Reading.{edge_list_at, edges_from};
 ghost use Rattle.session_file.specs.Feeding.{CountsFeedFault, Feeds};
 
 use crate::fault::FileFault;
+use crate::reading::body_hash::BodyHash;
 use crate::reading::feed_fault::FeedFault;
 use crate::reading::parts::eight;
-use devices::{Feed, HashingSink};
+use devices::Feed;
 use item_ids::Key;
 use sessions::{Record, SeenEdges};
 use std::alloc::Global;
@@ -16,7 +17,7 @@ use std::alloc::Global;
 pub(crate) fn read_edges<F: Feed>(
     alloc: Global,
     feed: &mut F,
-    hash: &mut HashingSink,
+    hash: &mut BodyHash,
     seen: &mut SeenEdges,
     front: &[Record],
     key: &Key,
@@ -36,7 +37,7 @@ pub(crate) fn read_edges<F: Feed>(
 fn read_items<F: Feed>(
     alloc: Global,
     feed: &mut F,
-    hash: &mut HashingSink,
+    hash: &mut BodyHash,
     seen: &mut SeenEdges,
     front: &[Record],
     key: &Key,

@@ -1,9 +1,10 @@
-//! Taking pieces of a file from a feed, and hashing them.
+//! Taking pieces of a file from a feed, and hashing them if this thread does.
 ghost use Rattle.session_file.specs.Feeding.{CountsFeedFault, Fills, Pulls};
 
 use crate::fault::FileFault;
+use crate::reading::body_hash::BodyHash;
 use crate::reading::feed_fault::FeedFault;
-use devices::{Feed, HashingSink};
+use devices::Feed;
 
 /// Fills the room with what the feed holds. Where that is less, it is a breach.
 fn fill<F: Feed>(feed: &mut F, room: &mut [u8]) -> Result<(), FeedFault>
@@ -21,10 +22,10 @@ fn fill<F: Feed>(feed: &mut F, room: &mut [u8]) -> Result<(), FeedFault>
     Ok(())
 }
 
-/// Fills the room with what the feed holds, and hashes it.
+/// Fills the room with what the feed holds, and hashes it if this thread does.
 pub(crate) fn pull<F: Feed>(
     feed: &mut F,
-    hash: &mut HashingSink,
+    hash: &mut BodyHash,
     room: &mut [u8],
 ) -> Result<(), FeedFault>
     ensures pulled { Pulls (F.holds feed.old) (F.holds feed.new) hash.old hash.new room.old room.new

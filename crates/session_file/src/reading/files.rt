@@ -1,15 +1,15 @@
 //! The head, the records and the end of a file, and whole files.
 ghost use Rattle.std.specs.Prelude.{◌≡◌, ◌≢◌, ◌++◌, List, ℕ, [], None, Ok, IfOk, IfSome, IfNone};
 ghost use Rattle.std.specs.Option.{option_copied};
-ghost use Rattle.sha2.specs.Sha256.{sha256};
 ghost use Rattle.sha2.specs.Hashers.{Holds256};
 ghost use Rattle.sessions.specs.Sessions.{SessionValue, IsSession, IsTakenFrom};
 ghost use Rattle.sessions.specs.declared.terms.Terms.{Terms as TermsValue};
-ghost use Rattle.sessions.specs.Spelling.{file_of, start};
-ghost use Rattle.session_file.specs.Reading.{IsUnlessMemory, IsUnlessStopped, end_at, file_after, file_at, front_after, head_at, session_after, session_at, start_at};
+ghost use Rattle.sessions.specs.Spelling.{body_bytes, file_of, start};
+ghost use Rattle.session_file.specs.Reading.{EndsWith, IsUnlessMemory, IsUnlessStopped, body_after, file_after, file_at, front_after, head_at, session_after, session_at, start_at};
 ghost use Rattle.session_file.specs.Feeding.{CountsDevice, CountsFeedFault, Feeds, FeedsFront, Given};
 
 use crate::fault::FileFault;
+use crate::reading::body_hash::BodyHash;
 use crate::reading::feed_fault::FeedFault;
 use crate::reading::feeding::pull;
 use crate::reading::origin::{Origin, check_past};
@@ -156,17 +156,56 @@ fn read_session<F: Feed>(
         (front_after (option_copied past.entry)) }
     ensures counted { CountsFeedFault result (F.failed feed.old) (F.failed feed.new) }
 {
-    let mut hash = HashingSink::new();
-    let head = read_head(feed, &mut hash)?;
+    let mut hash = BodyHash::here();
+    let session = read_body(alloc, past, feed, &mut hash)?;
+    let Some(body) = hash.into_sink() else {
+        unreachable!();
+    };
+    let end = thirty_two(feed, &mut BodyHash::elsewhere())?;
+    match with_end(session, body, &end) {
+        Ok(whole) => Ok(whole),
+        Err(fault) => Err(FeedFault::Breach(fault)),
+    }
+}
+
+/// Reads all but the digest at the end.
+pub(crate) fn read_body<F: Feed>(
+    alloc: Global,
+    past: Option<&Session>,
+    feed: &mut F,
+    hash: &mut BodyHash,
+) -> Result<Session, FeedFault>
+    requires { IfSome (option_copied past) IsSession }
+    ensures value { Feeds (F.holds feed.old) (F.holds feed.new) hash.old hash.new (λ x. x) result
+        (body_after (option_copied past.entry)) }
+    ensures counted { CountsFeedFault result (F.failed feed.old) (F.failed feed.new) }
+{
+    let head = read_head(feed, hash)?;
     let mut origin = Origin::new(past, head.terms.form);
-    let records = read_records(alloc, feed, &mut hash, &mut origin, head.count)?;
-    read_end(feed, &mut hash)?;
-    let session = Session::of_as(head.terms, head.number, head.link, records);
-    Ok(session.with_digest(hash.digest()))
+    let records = read_records(alloc, feed, hash, &mut origin, head.count)?;
+    Ok(Session::of_as(head.terms, head.number, head.link, records))
+}
+
+/// The session, which keeps the SHA-256 of its file, if these bytes are the digest at the end of that. The sink holds all
+/// before it.
+pub(crate) fn with_end(
+    session: Session,
+    body: HashingSink,
+    end: &[u8; 32],
+) -> Result<Session, FileFault>
+    requires { Holds256 body.hasher (body_bytes session) }
+    ensures { EndsWith session end.now result }
+{
+    let mut file = body;
+    if file.close() == *end {
+        Ok(session.with_digest(file.digest()))
+    } else {
+        Err(FileFault::BadDigest)
+    }
 }
 
 /// Reads what stands before the records.
-fn read_head<F: Feed>(feed: &mut F, hash: &mut HashingSink) -> Result<FileHead, FeedFault>
+fn read_head<F: Feed>(feed: &mut F, hash: &mut BodyHash) -> Result<FileHead, FeedFault>
     ensures value { Feeds (F.holds feed.old) (F.holds feed.new) hash.old hash.new
         (λ x. record { terms = x.terms; number = x.number; link = x.link; count = x.count }) result
         head_at }
@@ -192,7 +231,7 @@ fn read_head<F: Feed>(feed: &mut F, hash: &mut HashingSink) -> Result<FileHead, 
 }
 
 /// Reads the first four bytes, which begin each file.
-fn read_start<F: Feed>(feed: &mut F, hash: &mut HashingSink) -> Result<(), FeedFault>
+fn read_start<F: Feed>(feed: &mut F, hash: &mut BodyHash) -> Result<(), FeedFault>
     ensures value { Feeds (F.holds feed.old) (F.holds feed.new) hash.old hash.new (λ x. x) result start_at }
     ensures counted { CountsFeedFault result (F.failed feed.old) (F.failed feed.new) }
 {
@@ -207,20 +246,5 @@ fn read_start<F: Feed>(feed: &mut F, hash: &mut HashingSink) -> Result<(), FeedF
         }
         Err(FeedFault::Breach(_)) => Err(FeedFault::Breach(FileFault::BadMagic)),
         Err(stop) => Err(stop),
-    }
-}
-
-/// Reads the digest of all before it.
-fn read_end<F: Feed>(feed: &mut F, hash: &mut HashingSink) -> Result<(), FeedFault>
-    ensures value { (body : List ℕ) → Holds256 hash.old.hasher body
-        → Feeds (F.holds feed.old) (F.holds feed.new) hash.old hash.new (λ x. x) result (end_at body) }
-    ensures counted { CountsFeedFault result (F.failed feed.old) (F.failed feed.new) }
-{
-    let end = hash.so_far();
-    let digest = thirty_two(feed, hash)?;
-    if digest == end {
-        Ok(())
-    } else {
-        Err(FeedFault::Breach(FileFault::BadDigest))
     }
 }

@@ -7,10 +7,11 @@ ghost use Rattle.session_file.specs.Reading.{item_at, item_with};
 ghost use Rattle.session_file.specs.Feeding.{CountsFeedFault, Feeds};
 
 use crate::fault::FileFault;
+use crate::reading::body_hash::BodyHash;
 use crate::reading::feed_fault::FeedFault;
 use crate::reading::parts::{byte, text};
 use byte_readers::as_text;
-use devices::{Feed, HashingSink};
+use devices::Feed;
 use item_ids::{Key, Kind};
 use mj_lexer::Name;
 use sessions::Mark;
@@ -36,7 +37,7 @@ impl Model for Item {
 pub(crate) fn read_item<F: Feed>(
     alloc: Global,
     feed: &mut F,
-    hash: &mut HashingSink,
+    hash: &mut BodyHash,
     index: usize,
 ) -> Result<Item, FeedFault>
     ensures value { Feeds (F.holds feed.old) (F.holds feed.new) hash.old hash.new (λ x. x) result

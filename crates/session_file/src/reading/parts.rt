@@ -5,14 +5,15 @@ ghost use Rattle.session_file.specs.Reading.{slice_at, short_text_at, or_truncat
 ghost use Rattle.mj_lexer.specs.Bytes.{most_name_bytes};
 ghost use Rattle.session_file.specs.Feeding.{Appends, CountsFeedFault, Feeds};
 
+use crate::reading::body_hash::BodyHash;
 use crate::reading::feed_fault::FeedFault;
 use crate::reading::feeding::pull;
 use byteorder::{BigEndian, ByteOrder};
-use devices::{Feed, HashingSink};
+use devices::Feed;
 use std::alloc::Global;
 
 /// A number of eight bytes.
-pub(crate) fn eight<F: Feed>(feed: &mut F, hash: &mut HashingSink) -> Result<u64, FeedFault>
+pub(crate) fn eight<F: Feed>(feed: &mut F, hash: &mut BodyHash) -> Result<u64, FeedFault>
     ensures value { Feeds (F.holds feed.old) (F.holds feed.new) hash.old hash.new (λ x. x) result
         (λ bytes. or_truncated (eight_at bytes)) }
     ensures counted { CountsFeedFault result (F.failed feed.old) (F.failed feed.new) }
@@ -23,7 +24,7 @@ pub(crate) fn eight<F: Feed>(feed: &mut F, hash: &mut HashingSink) -> Result<u64
 }
 
 /// A number of four bytes.
-pub(crate) fn four<F: Feed>(feed: &mut F, hash: &mut HashingSink) -> Result<u32, FeedFault>
+pub(crate) fn four<F: Feed>(feed: &mut F, hash: &mut BodyHash) -> Result<u32, FeedFault>
     ensures value { Feeds (F.holds feed.old) (F.holds feed.new) hash.old hash.new (λ x. x) result
         (λ bytes. or_truncated (four_at bytes)) }
     ensures counted { CountsFeedFault result (F.failed feed.old) (F.failed feed.new) }
@@ -34,7 +35,7 @@ pub(crate) fn four<F: Feed>(feed: &mut F, hash: &mut HashingSink) -> Result<u32,
 }
 
 /// A number of two bytes.
-pub(crate) fn two<F: Feed>(feed: &mut F, hash: &mut HashingSink) -> Result<u16, FeedFault>
+pub(crate) fn two<F: Feed>(feed: &mut F, hash: &mut BodyHash) -> Result<u16, FeedFault>
     ensures value { Feeds (F.holds feed.old) (F.holds feed.new) hash.old hash.new (λ x. x) result
         (λ bytes. or_truncated (two_at bytes)) }
     ensures counted { CountsFeedFault result (F.failed feed.old) (F.failed feed.new) }
@@ -45,7 +46,7 @@ pub(crate) fn two<F: Feed>(feed: &mut F, hash: &mut HashingSink) -> Result<u16, 
 }
 
 /// One byte.
-pub(crate) fn byte<F: Feed>(feed: &mut F, hash: &mut HashingSink) -> Result<u8, FeedFault>
+pub(crate) fn byte<F: Feed>(feed: &mut F, hash: &mut BodyHash) -> Result<u8, FeedFault>
     ensures value { Feeds (F.holds feed.old) (F.holds feed.new) hash.old hash.new (λ x. x) result
         (λ bytes. or_truncated (byte_at bytes)) }
     ensures counted { CountsFeedFault result (F.failed feed.old) (F.failed feed.new) }
@@ -56,10 +57,7 @@ pub(crate) fn byte<F: Feed>(feed: &mut F, hash: &mut HashingSink) -> Result<u8, 
 }
 
 /// The bytes of a digest.
-pub(crate) fn thirty_two<F: Feed>(
-    feed: &mut F,
-    hash: &mut HashingSink,
-) -> Result<[u8; 32], FeedFault>
+pub(crate) fn thirty_two<F: Feed>(feed: &mut F, hash: &mut BodyHash) -> Result<[u8; 32], FeedFault>
     ensures value { Feeds (F.holds feed.old) (F.holds feed.new) hash.old hash.new (λ x. x) result
         (slice_at 32) }
     ensures counted { CountsFeedFault result (F.failed feed.old) (F.failed feed.new) }
@@ -72,7 +70,7 @@ pub(crate) fn thirty_two<F: Feed>(
 /// One byte of length, and so many bytes, which are moved to the front of the room. Answers how many there are.
 pub(crate) fn text<F: Feed>(
     feed: &mut F,
-    hash: &mut HashingSink,
+    hash: &mut BodyHash,
     room: &mut [u8; 255],
 ) -> Result<usize, FeedFault>
     ensures value { Feeds (F.holds feed.old) (F.holds feed.new) hash.old hash.new
@@ -92,7 +90,7 @@ const PIECE: usize = 1024;
 pub(crate) fn bytes<F: Feed>(
     alloc: Global,
     feed: &mut F,
-    hash: &mut HashingSink,
+    hash: &mut BodyHash,
     count: u64,
 ) -> Result<Vec<u8>, FeedFault>
     ensures value { Feeds (F.holds feed.old) (F.holds feed.new) hash.old hash.new (λ x. x.items) result
@@ -113,7 +111,7 @@ pub(crate) fn bytes<F: Feed>(
 /// Takes so many bytes, and appends them to the text.
 fn piece<F: Feed>(
     feed: &mut F,
-    hash: &mut HashingSink,
+    hash: &mut BodyHash,
     text: &mut Vec<u8>,
     count: usize,
 ) -> Result<(), FeedFault>

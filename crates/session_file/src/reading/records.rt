@@ -8,12 +8,13 @@ ghost use Rattle.session_file.specs.Feeding.{CountsFeedFault, Feeds, is_device};
 ghost use Rattle.session_file.specs.Records.{AppendsRecord};
 
 use crate::fault::FileFault;
+use crate::reading::body_hash::BodyHash;
 use crate::reading::edges::read_edges;
 use crate::reading::feed_fault::FeedFault;
 use crate::reading::items::{Item, read_item};
 use crate::reading::origin::Origin;
 use crate::reading::results::{read_result, take_result};
-use devices::{Feed, HashingSink};
+use devices::Feed;
 use fingerprint::Sealed;
 use item_ids::Key;
 use sessions::{Record, SeenEdges, is_marked};
@@ -31,7 +32,7 @@ struct Rest {
 pub(crate) fn read_records<F: Feed>(
     alloc: Global,
     feed: &mut F,
-    hash: &mut HashingSink,
+    hash: &mut BodyHash,
     origin: &mut Origin<'_>,
     count: u64,
 ) -> Result<Vec<Record>, FeedFault>
@@ -51,7 +52,7 @@ pub(crate) fn read_records<F: Feed>(
 fn next_record<F: Feed>(
     alloc: Global,
     feed: &mut F,
-    hash: &mut HashingSink,
+    hash: &mut BodyHash,
     origin: &mut Origin<'_>,
     seen: &mut SeenEdges,
     records: &mut Vec<Record>,
@@ -75,7 +76,7 @@ fn next_record<F: Feed>(
 fn read_record<F: Feed>(
     alloc: Global,
     feed: &mut F,
-    hash: &mut HashingSink,
+    hash: &mut BodyHash,
     origin: &mut Origin<'_>,
     seen: &mut SeenEdges,
     front: &[Record],
@@ -97,7 +98,7 @@ fn read_record<F: Feed>(
 fn read_placed<F: Feed>(
     alloc: Global,
     feed: &mut F,
-    hash: &mut HashingSink,
+    hash: &mut BodyHash,
     front: &[Record],
 ) -> Result<Item, FeedFault>
     ensures value { Feeds (F.holds feed.old) (F.holds feed.new) hash.old hash.new (λ x. x) result
@@ -140,7 +141,7 @@ fn is_behind(last: Option<&Record>, key: &Key) -> bool
 fn read_rest<F: Feed>(
     alloc: Global,
     feed: &mut F,
-    hash: &mut HashingSink,
+    hash: &mut BodyHash,
     origin: &mut Origin<'_>,
     seen: &mut SeenEdges,
     front: &[Record],
@@ -164,7 +165,7 @@ fn read_rest<F: Feed>(
 fn read_told<F: Feed>(
     alloc: Global,
     feed: &mut F,
-    hash: &mut HashingSink,
+    hash: &mut BodyHash,
     origin: &mut Origin<'_>,
     index: usize,
     item: &Item,

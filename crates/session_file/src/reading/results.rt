@@ -7,9 +7,10 @@ ghost use Rattle.session_file.specs.Reading.{past_with_print, result_at, taken_a
 ghost use Rattle.session_file.specs.Feeding.{CountsFeedFault, Feeds};
 
 use crate::fault::FileFault;
+use crate::reading::body_hash::BodyHash;
 use crate::reading::feed_fault::FeedFault;
 use crate::reading::parts::{bytes, eight, thirty_two};
-use devices::{Feed, HashingSink};
+use devices::Feed;
 use fingerprint::{Print, Sealed, SealedFault, open_sealed};
 use item_ids::Kind;
 use result_bytes::Refusal;
@@ -20,7 +21,7 @@ use std::sync::Arc;
 /// its key.
 pub(crate) fn take_result<F: Feed>(
     feed: &mut F,
-    hash: &mut HashingSink,
+    hash: &mut BodyHash,
     had: Option<&Arc<Sealed>>,
     index: usize,
 ) -> Result<Arc<Sealed>, FeedFault>
@@ -61,7 +62,7 @@ fn with_print(
 pub(crate) fn read_result<F: Feed>(
     alloc: Global,
     feed: &mut F,
-    hash: &mut HashingSink,
+    hash: &mut BodyHash,
     had: Option<&Arc<Sealed>>,
     index: usize,
     kind: Kind,

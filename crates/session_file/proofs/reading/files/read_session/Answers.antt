@@ -1,44 +1,27 @@
-use Rattle.std.proofs.Common.{◌++◌, [], ◌∙◌}
+use Rattle.std.proofs.Common.{[], Option, sym, subst}
+use Rattle.std.specs.Prelude.{IsSomeAnd}
+use Rattle.sha2.specs.Hashers.{Holds256}
 use Rattle.devices.proofs.PutLaws.{handed_on}
-use Rattle.session_file.proofs.FeedLaws.{moved_then}
-use Rattle.session_file.proofs.StepLaws.{front_halts_head, front_halts_records, front_halts_end, front_took, took_front, front_is_file}
+use Rattle.devices.specs.declared.hashing.HashingSink.{HashingSink}
+use Rattle.session_file.proofs.StepLaws.{front_halts_body, front_halts_end, front_differs, front_took, end_halts, body_spelled}
 use Rattle.session_file.proofs.reading.files.read_session.Goals as goal
 
-pub returns-in_err-head-clause-value : goal.returns-in_err-head-clause-value
-returns-in_err-head-clause-value g c = rw (handed_on c.from_residual.result _ c.from_residual.ensures.1) (front_halts_head _ _ c.in_err-head.field-0.0 c.in_err-head.ensures.value)
+pub returns-in_err-session-clause-value : goal.returns-in_err-session-clause-value
+returns-in_err-session-clause-value g c = rw (handed_on c.from_residual.result _ c.from_residual.ensures.1) (front_halts_body _ _ c.in_err-session.field-0.0 c.in_err-session.ensures.value)
 
-pub returns-in_err-records-clause-value : goal.returns-in_err-records-clause-value
-returns-in_err-records-clause-value g c = rw (handed_on c.from_residual-in_err-records.result _ c.from_residual-in_err-records.ensures.1) (front_halts_records _ _ c.in_err-records.field-0.0 c.in_ok-head.ensures.value (rw c.new-origin.ensures at c.in_err-records.ensures.value))
+pub returns-in_err-end-clause-value : goal.returns-in_err-end-clause-value
+returns-in_err-end-clause-value g c =
+    let p = c.in_ok-session.ensures.value in
+    rw (handed_on c.from_residual-in_err-end.result _ c.from_residual-in_err-end.ensures.1) (front_halts_end _ _ c.in_err-end.field-0.0 p (end_halts _ p.part c.in_err-end.field-0.0 c.in_err-end.ensures.value))
 
-pub returns-in_err-read_end-clause-value : goal.returns-in_err-read_end-clause-value
-returns-in_err-read_end-clause-value g c =
-    let p = c.in_ok-head.ensures.value in
-    let q = rw c.new-origin.ensures at c.in_ok-records.ensures.value in
-    rw (handed_on c.from_residual-in_err-read_end.result _ c.from_residual-in_err-read_end.ensures.1) (front_halts_end _ _ _ c.in_err-read_end.field-0.0 p q (c.in_err-read_end.ensures.value (p.part ++ q.part) ((moved_then p.moved q.moved).hashed [] c.new-hash.ensures)))
+pub with_end-requires : goal.with_end-requires
+with_end-requires g c =
+    let p = c.in_ok-session.ensures.value in
+    let holds = subst (λ (o : Option HashingSink). IsSomeAnd o (λ (s : HashingSink). Holds256 s.hasher p.part)) (sym c.in-Some.ensures) (p.moved.hashed [] c.here-hash.ensures) in
+    subst (Holds256 c.in-Some.body.hasher) (body_spelled _ _ c.requires p) holds
 
-pub of_as-session-requires-clause-number : goal.of_as-session-requires-clause-number
-of_as-session-requires-clause-number g c =
-    let p = c.in_ok-head.ensures.value in
-    let q = rw c.new-origin.ensures at c.in_ok-records.ensures.value in
-    let t = front_took _ _ _ p q (c.in_ok-read_end.ensures.value (p.part ++ q.part) ((moved_then p.moved q.moved).hashed [] c.new-hash.ensures)) in
-    (front_is_file _ t.part _ c.requires t.moved.fits t.reads).session.number
+pub returns-in-Ok-clause-value : goal.returns-in-Ok-clause-value
+returns-in-Ok-clause-value g c = rw c.in-Ok.ensures.0 (front_took _ _ c.in_ok-end.end c.requires c.in_ok-session.ensures.value c.in_ok-end.ensures.value c.in-Ok.ensures.1)
 
-pub of_as-session-requires-clause-records : goal.of_as-session-requires-clause-records
-of_as-session-requires-clause-records g c =
-    let p = c.in_ok-head.ensures.value in
-    let q = rw c.new-origin.ensures at c.in_ok-records.ensures.value in
-    let t = front_took _ _ _ p q (c.in_ok-read_end.ensures.value (p.part ++ q.part) ((moved_then p.moved q.moved).hashed [] c.new-hash.ensures)) in
-    (front_is_file _ t.part _ c.requires t.moved.fits t.reads).session.records
-
-pub with_digest-requires : goal.with_digest-requires
-with_digest-requires g c =
-    let p = c.in_ok-head.ensures.value in
-    let q = rw c.new-origin.ensures at c.in_ok-records.ensures.value in
-    let t = front_took _ _ _ p q (c.in_ok-read_end.ensures.value (p.part ++ q.part) ((moved_then p.moved q.moved).hashed [] c.new-hash.ensures)) in
-    rw c.of_as-session.ensures (c.digest.ensures t.part (t.moved.hashed [] c.new-hash.ensures) ∙ (front_is_file _ t.part _ c.requires t.moved.fits t.reads).digest)
-
-pub returns-clause-value : goal.returns-clause-value
-returns-clause-value g c =
-    let p = c.in_ok-head.ensures.value in
-    let q = rw c.new-origin.ensures at c.in_ok-records.ensures.value in
-    rw (c.with_digest.ensures, c.of_as-session.ensures) (took_front _ (front_took _ _ _ p q (c.in_ok-read_end.ensures.value (p.part ++ q.part) ((moved_then p.moved q.moved).hashed [] c.new-hash.ensures))))
+pub returns-in-Err-clause-value : goal.returns-in-Err-clause-value
+returns-in-Err-clause-value g c = rw c.in-Err.ensures.0 (front_differs _ _ c.in_ok-end.end c.requires c.in_ok-session.ensures.value c.in_ok-end.ensures.value c.in-Err.ensures.1)
