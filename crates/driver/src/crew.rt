@@ -106,7 +106,7 @@ pub(crate) fn work_at<
 }
 
 /// A worker does all jobs at a table of its own.
-fn work_alone<J: Naming, R: Runner, G: Gate>(
+pub(crate) fn work_alone<J: Naming, R: Runner, G: Gate>(
     counted: Counted<J, R>,
     jobs: &Jobs<'_, G>,
     worker: &mut Member<J, R>,

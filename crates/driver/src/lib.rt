@@ -1,6 +1,7 @@
 //! One session of a project: its jobs, by workers who share its table, over the previous session.
 #![tactic(auto)]
 
+mod alone;
 mod changes;
 mod crew;
 mod fault;
@@ -10,6 +11,7 @@ mod lists;
 mod reports;
 mod session;
 
+pub use alone::drive_alone;
 pub use changes::changed_files;
 pub use crew::Crew;
 pub use fault::DriveFault;

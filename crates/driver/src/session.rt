@@ -114,12 +114,12 @@ pub fn drive_as<
 }
 
 /// A runner keeps the laws by its type.
-fn keeps_laws<R: Runner>()
+pub(crate) fn keeps_laws<R: Runner>()
     ensures { AreLawful R.queries }
 {}
 
 /// The previous session, where there is one, is a session.
-fn past_is_session(prev: &Option<Arc<Session>>)
+pub(crate) fn past_is_session(prev: &Option<Arc<Session>>)
     ensures { IfSome (session_in prev.now) IsSession }
 {
     if let Some(past) = prev {
@@ -163,7 +163,7 @@ fn drive_table<
 }
 
 /// Closes the table when all workers have ended, and counts what each of them did.
-fn end<J: Naming, R: Runner + Drop>(
+pub(crate) fn end<J: Naming, R: Runner + Drop>(
     alloc: Global,
     all: Share<J>,
     team: Vec<Member<J, R>>,

@@ -1,7 +1,7 @@
 -- What is unpacked was packed, and what was packed is unpacked.
-use Rattle.std.proofs.Common.{◌≡◌, ℕ, ◌+◌, ◌^◌, ◌<◌, ◌≤◌, Bool, true, false, cond, ltb, nat_lt, List, [], ◌∷◌, ◌++◌, length, take, drop, Result, Ok, Err, refl, sym, ap, subst, ◌∙◌, append_assoc, arith}
+use Rattle.std.proofs.Common.{◌≡◌, ℕ, ◌^◌, ◌<◌, ◌≤◌, Bool, true, false, cond, nat_lt, List, [], ◌∷◌, ◌++◌, length, take, drop, Result, Ok, Err, refl, sym, ap, subst, ◌∙◌, append_assoc, arith}
 use Rattle.std.specs.Str.{is_utf8}
-use Rattle.std.specs.List.{flat_map, AllByRecursion}
+use Rattle.std.specs.List.{AllByRecursion}
 use Rattle.std.proofs.lemmas.Bool.{ltb-false, le-ltb}
 use Rattle.std.proofs.lemmas.List.{take_at, drop_at, take-append-drop, length-append, length-take}
 use Rattle.std.proofs.lemmas.List.Concat.{flat_map-cons}
@@ -19,7 +19,7 @@ use Rattle.packed_files.specs.declared.flaws.Flaw.TheVariants as flaws
 abbrev done : {A : Type 0} → A → Result A Flaw
 done x = Ok x
 
-ok_is : {A : Type 0} (x y : A) → done x ≡ done y → x ≡ y
+pub ok_is : {A : Type 0} (x y : A) → done x ≡ done y → x ≡ y
 ok_is x y e = cc
 
 -- the value of a step that did not fail
@@ -76,6 +76,13 @@ run_again none cut text rest short =
     ap (run_at none cut) (append_assoc (eight (length text)) text rest)
     ∙ rw (lawful_eight.again (length text) (text ++ rest) short, long, take_at text rest (length text) refl, drop_at text rest (length text) refl) refl
 
+eight_length : (n : ℕ) → length (eight n) ≡ 8
+unfolding eight
+eight_length n = refl
+
+pub some_run : (text rest : List ℕ) → 0 < length (run text ++ rest)
+some_run text rest = omega (arith, eight_length (length text), length-append (run text) rest, length-append (eight (length text)) text)
+
 -- ---- files
 
 pub file_takes : (bytes : List ℕ) (file : SourceFile) (rest : List ℕ) → IsBytes bytes → file_at bytes ≡ Ok (file, rest) → Takes bytes (packed_file file) rest × IsPackable file
@@ -109,10 +116,6 @@ packed_more (first ∷ files) file rest =
 pub packable_more : (files : List SourceFile) (file : SourceFile) → AllByRecursion IsPackable files → IsPackable file → AllByRecursion IsPackable (files ++ file ∷ [])
 packable_more [] file all fit = (fit, tt)
 packable_more (first ∷ files) file all fit = (all.0, packable_more files file all.1 fit)
-
-eight_length : (n : ℕ) → length (eight n) ≡ 8
-unfolding eight
-eight_length n = refl
 
 pub some_packed : (file : SourceFile) (rest : List ℕ) → 0 < length (packed_file file ++ rest)
 some_packed file rest = omega (

@@ -1,5 +1,5 @@
 -- Unpacking file after file, as the loop does.
-use Rattle.std.proofs.Common.{◌≡◌, ℕ, ◌<◌, Bool, true, false, nat_eq, List, [], ◌∷◌, ◌++◌, length, Ok, Err, refl, sym, ap, subst, ◌∙◌, arith}
+use Rattle.std.proofs.Common.{◌≡◌, ℕ, ◌<◌, Bool, true, false, nat_eq, List, [], ◌∷◌, ◌++◌, length, Err, refl, sym, ap, subst, ◌∙◌, arith}
 use Rattle.std.specs.List.{AllByRecursion}
 use Rattle.std.proofs.lemmas.Bool.Decides.{nat_tests}
 use Rattle.std.proofs.lemmas.List.{length-append, append-nil}
@@ -10,7 +10,7 @@ use Rattle.packed_files.specs.Unpacking.{IsRefusedAt, UnpacksOne, file_at}
 use Rattle.packed_files.specs.declared.flaws.Flaw.{Flaw}
 use Rattle.packed_files.specs.declared.flaws.UnpackFault.{UnpackFault}
 use Rattle.packed_files.specs.declared.flaws.UnpackFault.TheVariants as faults
-use Rattle.packed_files.proofs.Laws.{Behind, behind, file_again, file_takes, packable_more, packed_more, some_packed}
+use Rattle.packed_files.proofs.Laws.{behind, file_again, file_takes, packable_more, packed_more, some_packed}
 
 -- These files are unpacked of the bytes, and this is left.
 pub record IsUnpackedTo (bytes : List ℕ) (files : List SourceFile) (rest : List ℕ) : Type 0 where

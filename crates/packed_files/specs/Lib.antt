@@ -1,3 +1,4 @@
 pub mod FlawWords
 pub mod Packing
+pub mod Runs
 pub mod Unpacking

@@ -21,8 +21,8 @@ pub enum Flaw {
 }
 
 impl Flaw {
-    // What is said of it, behind the number of the file.
-    fn words(self) -> &'static str
+    /// What is said of it, behind the number of the file.
+    pub fn words(self) -> &'static str
         ensures { result.now ≡ flaw_words self }
     {
         match self {

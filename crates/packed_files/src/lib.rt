@@ -2,7 +2,9 @@
 #![tactic(auto)]
 
 mod flaws;
+mod runs;
 mod unpacking;
 
 pub use flaws::{Flaw, UnpackFault, flaw_text};
+pub use runs::unpack_runs;
 pub use unpacking::unpack;

@@ -69,7 +69,7 @@ fn split_file(bytes: &[u8]) -> Result<(&str, &[u8], &[u8]), Flaw>
 
 // The bytes behind their length, and what is left behind them; else the flaw if the length is cut off, or the bytes.
 #[tactic(auto, unfolding(crate::specs::Unpacking::run_at, byte_readers::specs::Reading::eight_at), using(byte_readers::proofs::Numbers::eight_of))]
-fn split_run(bytes: &[u8], length_cut: Flaw, cut: Flaw) -> Result<(&[u8], &[u8]), Flaw>
+pub(crate) fn split_run(bytes: &[u8], length_cut: Flaw, cut: Flaw) -> Result<(&[u8], &[u8]), Flaw>
     ensures { MatchResult result
         (λ run. run_at length_cut cut bytes.now ≡ Ok (run.0.now, run.1.now))
         (λ flaw. run_at length_cut cut bytes.now ≡ Err flaw) }
