@@ -136,7 +136,7 @@ pub fn no_words<E: Write>(error: &io::Error, err: &mut E) -> Status
     if error.kind() == ErrorKind::OutOfMemory {
         return no_memory(err);
     }
-    let _ = write(err, b"error: a word of the command line isn't UTF-8\n");
+    let _ = write(err, b"error: an argument isn't UTF-8\n");
     Status::Refused
 }
 
