@@ -21,8 +21,30 @@ use std::thread::Threads;
 /// is none, and no two different results, one of it and one of this session, share a fingerprint, it is the session that any
 /// workers make, and its answer is what the static rules of its profile give the project's files. There is none only if
 /// memory runs out.
-#[tactic(auto, using(crate::proofs::Answered::only_memory))]
 pub fn next_session<T: Threads + Wait + Sync>(
+    rt: &T,
+    alloc: Global,
+    past: Option<Arc<Session>>,
+    project: &Project,
+    terms: Terms,
+    workers: usize,
+) -> Result<Session, DriveFault>
+    requires crew { IsCrew workers }
+    requires room { IfSome (session_in past) (λ s. s.number < most) }
+    ensures made { IfOk result (IsMadeOver terms (session_in past) project.now) }
+    ensures next { IfOk result (λ s. StandsApart queries (session_in past) s
+        → IsNextByRules terms (session_in past) project.now s) }
+    ensures memory { IfErr result (λ fault. fault ≡ DriveFault.OutOfMemory) }
+{
+    match workers_for(alloc, &past, project, terms, workers) {
+        Ok(workers) => made_by(rt, alloc, past, project, terms, workers),
+        Err(AllocError) => Err(DriveFault::OutOfMemory),
+    }
+}
+
+/// The same session, made by just so many workers.
+#[tactic(auto, using(crate::proofs::Answered::only_memory))]
+fn made_by<T: Threads + Wait + Sync>(
     rt: &T,
     alloc: Global,
     past: Option<Arc<Session>>,
@@ -39,9 +61,6 @@ pub fn next_session<T: Threads + Wait + Sync>(
 {
     // The answer that the queries mean is that of the rules.
     answer_laws();
-    let Ok(workers) = workers_for(alloc, &past, project, terms, workers) else {
-        return Err(DriveFault::OutOfMemory);
-    };
     match run_session_as(rt, alloc, past, project, terms, workers, &Open) {
         Ok((session, _)) => {
             // A session keeps in its type what its records are.

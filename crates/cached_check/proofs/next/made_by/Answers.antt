@@ -1,5 +1,5 @@
 use Rattle.cached_check.proofs.Answered.{made_over, next_by_rules}
-use Rattle.cached_check.proofs.next.next_session.Goals as goal
+use Rattle.cached_check.proofs.next.made_by.Goals as goal
 
 pub returns-in-Ok-clause-made : goal.returns-in-Ok-clause-made
 returns-in-Ok-clause-made g c =
