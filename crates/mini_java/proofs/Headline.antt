@@ -20,10 +20,10 @@ use Rattle.sessions.specs.Sessions.{SessionValue, IsSession, past_entry}
 use Rattle.graph_rules.specs.Next.{AreSources}
 use Rattle.graph_rules.proofs.SessionRules.{session_graph}
 use Rattle.audit_graph.specs.declared.fault.AuditFault.{AuditFault}
-use Rattle.audit_replay.specs.Audits.{IsAccepted, AreApart, AuditRefuses, HaveFiles, last_of, last_entry, HasValue}
+use Rattle.audit_replay.specs.Audits.{IsAccepted, AreApart, AuditRefuses, AuditRefusesAgainst, HaveFiles, last_of, last_entry, HasValue}
 use Rattle.audit_replay.proofs.ChainRules.{all_right}
 use Rattle.audit_replay.proofs.AcceptedRules.{means_accepted, meant_by_last}
-use Rattle.mini_java.specs.Headline.{ChainRefuses, IsAcceptedAgainst, IsAcceptedChain, IsOfTheRules}
+use Rattle.mini_java.specs.Headline.{ChainRefuses, ChainRefusesAgainst, IsAcceptedAgainst, IsAcceptedChain, IsOfTheRules}
 
 pub means_the_rules : (profile : Profile) (p : Project) → mean profile p Answer ≡ values.Answer (rules_of profile p)
 unfolding mean
@@ -75,6 +75,9 @@ module _ (files : List (List ℕ)) (log : List Key) (profile : Profile) (p : Pro
   unfolding from_nothing
   accepted_against accepted = record { accepted = from_nothing accepted; same = refl }
 
+  pub chain_accepted_against : (old : List Key) → IsAccepted queries files old log profile p answer count runs → old ≡ [] → IsAcceptedAgainst p files profile answer count runs
+  chain_accepted_against old accepted none = accepted_against (subst (λ (before : List Key). IsAccepted queries files before log profile p answer count runs) none accepted)
+
   pub accepted_chain : (old : List Key) → IsAccepted queries files old log profile p answer count runs → old ≡ [] → IsAcceptedChain files profile answer count runs
   accepted_chain old accepted none = from_nothing (subst (λ (before : List Key). IsAccepted queries files before log profile p answer count runs) none accepted)
 
@@ -101,3 +104,10 @@ module _ (files : List (List ℕ)) (profile : Profile) (answer : Value) (count r
 
 pub refused_chain : (files : List (List ℕ)) (old log : List Key) → old ≡ [] → (fault : AuditFault) → AuditRefuses queries files old log fault → ChainRefuses files fault
 refused_chain files old log none fault refused = record { log = log; refused = subst (λ (before : List Key). AuditRefuses queries files before log fault) none refused }
+
+pub chain_refused_against : (files : List (List ℕ)) (old log : List Key) → old ≡ [] → (p : Project) (fault : AuditFault) → AuditRefusesAgainst queries files old log p fault
+    → ChainRefusesAgainst p files fault
+chain_refused_against files old log none p fault refused = record {
+  log = log;
+  refused = subst (λ (before : List Key). AuditRefusesAgainst queries files before log p fault) none refused;
+}

@@ -8,11 +8,12 @@ ghost use Rattle.graph_rules.specs.Next.{AreSources};
 ghost use Rattle.query_rules.specs.Queries.{queries};
 ghost use Rattle.audit_replay.specs.Audits.{AreApart, AreRight, HaveFiles, IsLastProfile, last_entry};
 ghost use Rattle.providers.specs.AnswerValues.{IsAnswerValue};
-ghost use Rattle.mini_java.specs.Headline.{ChainRefuses, IsAcceptedChain, IsOfTheRules};
+ghost use Rattle.mini_java.specs.Headline.{ChainRefuses, ChainRefusesAgainst, IsAcceptedAgainst, IsAcceptedChain, IsOfTheRules};
 
 use audit_graph::AuditFault;
-use audit_replay::{Audited, audit};
+use audit_replay::{Audited, audit, audit_against};
 use mj_answer::Answer;
+use mj_project::Project;
 use mj_rules::answer_laws;
 use providers::{MiniJava, answer_of};
 use std::alloc::Global;
@@ -43,6 +44,30 @@ pub fn audit_chain(alloc: Global, chain: &[&[u8]]) -> Result<Audited, AuditFault
     answer_laws();
     let mut runner = MiniJava::new(alloc);
     audit(alloc, &mut runner, chain)
+}
+
+/// Audits a chain as `audit_chain` does, and tells whether the last session's files are those of the project.
+pub fn audit_chain_against(
+    alloc: Global,
+    chain: &[&[u8]],
+    project: &Project,
+) -> Result<Audited, AuditFault>
+    // What was checked.
+    ensures accepted { IfOk result (λ a.
+        IsAcceptedAgainst project.now (map (λ f. f.now) chain.now) a.profile (arc_value a.answer)
+        a.sessions a.runs) }
+    // Where no two different results in the files share a fingerprint, the answer is what the static rules of the
+    // profile give the project.
+    ensures headline { IfOk result (λ a. (sessions : List SessionValue)
+        → HaveFiles sessions (map (λ f. f.now) chain.now) → AreApart sessions
+        → IsOfTheRules a.profile project.now (arc_value a.answer)) }
+    ensures refused { IfErr result
+        (ChainRefusesAgainst project.now (map (λ f. f.now) chain.now)) }
+{
+    // The answer that the queries mean is that of the rules.
+    answer_laws();
+    let mut runner = MiniJava::new(alloc);
+    audit_against(alloc, &mut runner, chain, project)
 }
 
 /// The answer that an accepted chain ends with.

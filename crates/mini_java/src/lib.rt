@@ -7,10 +7,10 @@ mod auditor;
 mod laws;
 mod session;
 
-pub use audit::{audit_chain, audited_answer};
+pub use audit::{audit_chain, audit_chain_against, audited_answer};
 pub use audit_replay::Audited;
 pub use auditor::ChainAuditor;
 pub use driver::{Crew, DriveFault, Gate, Open, Reports, Shared, drive};
 pub use laws::{accepted_are_the_rules, accepted_chains_are_the_rules};
 pub use providers::MiniJava;
-pub use session::{run_session, run_session_as};
+pub use session::{run_session, run_session_alone, run_session_as};

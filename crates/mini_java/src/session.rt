@@ -6,7 +6,7 @@ ghost use Rattle.sessions.specs.Sessions.{session_in};
 ghost use Rattle.next_sessions.specs.Nexts.{StandsApart, IsNextSession};
 ghost use Rattle.driver.specs.Sessions.{DriveGives};
 
-use driver::{Basis, Crew, DriveFault, Gate, Reports, drive_as};
+use driver::{Basis, Crew, DriveFault, Gate, Reports, drive_alone, drive_as};
 use mj_project::Project;
 use providers::MiniJava;
 use sessions::{Session, Terms};
@@ -55,4 +55,21 @@ pub fn run_session_as<G: Gate + Sync, T: Threads + Wait + Sync>(
         Crew::of(workers),
         gate,
     )
+}
+
+/// Makes one session of a MiniJava project, as `run_session_as` does by one worker. It starts no thread, and waits for none.
+pub fn run_session_alone<G: Gate>(
+    alloc: Global,
+    prev: Option<Arc<Session>>,
+    project: &Project,
+    terms: Terms,
+    gate: &G,
+) -> Result<(Session, Reports), DriveFault>
+    ensures gives { DriveGives queries terms (session_in prev) project.now 1 result }
+    // A session that stands apart from the previous one is the next session.
+    ensures next { IfOk result (λ done. StandsApart queries (session_in prev) done.0
+        → IsNextSession queries terms (session_in prev) project.now done.0) }
+{
+    let basis = Basis { terms, past: prev };
+    drive_alone(alloc, &|| MiniJava::new(alloc), basis, project, gate)
 }
