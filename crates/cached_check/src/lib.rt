@@ -11,5 +11,5 @@ mod words;
 pub use answer::answer_in;
 pub use beginning::{Beginning, begin};
 pub use laws::first_stands_apart;
-pub use next::next_session;
+pub use next::{next_session, next_session_alone};
 pub use words::{counts_text, summary_text};

@@ -8,7 +8,7 @@ ghost use Rattle.next_sessions.specs.Nexts.{StandsApart};
 ghost use Rattle.cached_check.specs.Checks.{IsMadeOver, IsNextByRules};
 
 use driver::changed_files;
-use mini_java::{DriveFault, Open, run_session_as};
+use mini_java::{DriveFault, Open, run_session_alone, run_session_as};
 use mj_project::Project;
 use mj_rules::answer_laws;
 use sessions::{Session, Terms};
@@ -62,6 +62,31 @@ fn made_by<T: Threads + Wait + Sync>(
     // The answer that the queries mean is that of the rules.
     answer_laws();
     match run_session_as(rt, alloc, past, project, terms, workers, &Open) {
+        Ok((session, _)) => {
+            // A session keeps in its type what its records are.
+            let _records = session.records();
+            Ok(session)
+        }
+        Err(fault) => Err(fault),
+    }
+}
+
+/// The same session, made by one worker. It starts no thread, and waits for none.
+pub fn next_session_alone(
+    alloc: Global,
+    past: Option<Arc<Session>>,
+    project: &Project,
+    terms: Terms,
+) -> Result<Session, DriveFault>
+    requires room { IfSome (session_in past) (λ s. s.number < most) }
+    ensures made { IfOk result (IsMadeOver terms (session_in past) project.now) }
+    ensures next { IfOk result (λ s. StandsApart queries (session_in past) s
+        → IsNextByRules terms (session_in past) project.now s) }
+    ensures memory { IfErr result (λ fault. fault ≡ DriveFault.OutOfMemory) }
+{
+    // The answer that the queries mean is that of the rules.
+    answer_laws();
+    match run_session_alone(alloc, past, project, terms, &Open) {
         Ok((session, _)) => {
             // A session keeps in its type what its records are.
             let _records = session.records();
