@@ -8,6 +8,7 @@ ghost use Rattle.mj_members.specs.Tables.{own_rows, named_rows, fields_along, me
 ghost use Rattle.mj_members.specs.Classes.{classes_view, class_ref_view, field_member_view, method_member_view};
 
 use crate::class::ClassRef;
+use mj_answer::Named;
 use mj_lexer::Name;
 use mj_tree::{Field, MethodTree};
 use std::alloc::{AllocError, Global};
@@ -25,6 +26,22 @@ pub struct FieldMember<'a> {
 pub struct MethodMember<'a> {
     pub owner: &'a Name,
     pub method: &'a MethodTree,
+}
+
+impl<'a> Named for FieldMember<'a> {
+    ghost name_of = { λ member. (field_member_view member).1.name };
+
+    fn name(&self) -> &Name {
+        &self.field.name
+    }
+}
+
+impl<'a> Named for MethodMember<'a> {
+    ghost name_of = { λ member. (method_member_view member).1.name };
+
+    fn name(&self) -> &Name {
+        &self.method.name
+    }
 }
 
 /// The fields that these classes declare, each name once: that of the first class which declares it. They ascend by
