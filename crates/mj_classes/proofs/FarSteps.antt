@@ -190,6 +190,7 @@ far_still step many count far stay all some each still = by count some each
         ∙ (led-twice far at (omega arith)
         ∙ (ap (led far) (each at lt)
         ∙ (again n each k (led_far step n at) below ∙ sym (led_far-add step n (rounds n (suc k)) at))))
+
     by : (n : ℕ) → 0 < n → ((at : ℕ) → at < many → led far at ≡ led_far step n at) → LeadFar step many far
     by zero lt each = absurd (omega arith)
     by (suc p) lt each = record {

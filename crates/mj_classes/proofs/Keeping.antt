@@ -12,7 +12,7 @@ use Rattle.mj_members.specs.Declarations.{ClassDecl, has_members}
 use Rattle.mj_members.specs.Classes.{class_ref_view, classes_view}
 use Rattle.mj_members.specs.declared.class.ClassRef.{ClassRef}
 use Rattle.mj_classes.specs.Declarations.{decl, place, superclass_places}
-use Rattle.mj_classes.specs.Chains.{EndOf, Repeated, IsChain, ancestry}
+use Rattle.mj_classes.specs.Chains.{EndOf, Repeated, IsChain, Chain, chain_of, ancestry}
 use Rattle.mj_classes.specs.Walks.{StandsAt, IsRing, IsChainAt, LeadsUp, Turns, IsTurn, IsEndAt, declares_nth, NoneIn, IsFirstAt, IsFirstFrom, IsNextOf, IsNearestAt, Stretch, declaring}
 use Rattle.mj_classes.proofs.Climb.{decl_name, chain_of_is}
 use Rattle.mj_classes.proofs.Climbing.{class_of, has_class, few, same_number, within, at_first, at_top, declaring_more, whole_chain}
@@ -294,16 +294,17 @@ end_is cs c chain entry at end t s ends = elim ends.2 [
         let one = same_Some _ _ (sym (chain_of_is cs c chain t.end t.is_chain) ∙ chain_of_is cs c chain (Repeated ring.again) ring.is_chain) in
         ap (λ p. p.1) one ∙ (ap (λ (n : Name). Repeated n) name ∙ sym r.2)
 
--- the chain with its end
-pub chain_is : (cs : List ClassDecl) (first turn : ℕ) (classes : List ClassDecl) (end : EndOf) → IsTurn cs first turn → IsEndAt cs turn end → ((c : Name) → place cs c ≡ Some first → classes ≡ filter has_members (ancestry cs c)) → IsChainAt cs first classes end
-chain_is cs first turn classes end turns ends kept c e =
+pub end_at_turn : (cs : List ClassDecl) (first turn : ℕ) (end : EndOf) → IsTurn cs first turn → IsEndAt cs turn end → (c : Name) → place cs c ≡ Some first → option_map (λ (p : Chain). p.1) (chain_of cs c) ≡ Some end
+end_at_turn cs first turn end turns ends c e =
     let k = place_class cs c first e in
     let t = has_turn cs c k.0 k.2 in
     let to = stands cs t.0 c t.2.end t.2.is_chain t.1 (turn_within cs c t.0 t.1 t.2) in
-    let same = end_is cs c t.0 t.1 to.0 end t.2 to.1 (subst (λ (x : ℕ). IsEndAt cs x end) (turns c t.0 t.1 to.0 e t.2 to.1) ends) in (
-      ap (option_map (λ p. p.1)) (chain_of_is cs c t.0 t.2.end t.2.is_chain) ∙ ap (λ (x : EndOf). Some x) same,
-      kept c e,
-    )
+    let same = end_is cs c t.0 t.1 to.0 end t.2 to.1 (subst (λ (x : ℕ). IsEndAt cs x end) (turns c t.0 t.1 to.0 e t.2 to.1) ends) in
+    ap (option_map (λ (p : Chain). p.1)) (chain_of_is cs c t.0 t.2.end t.2.is_chain) ∙ ap (λ (x : EndOf). Some x) same
+
+-- the chain with its end
+pub chain_is : (cs : List ClassDecl) (first turn : ℕ) (classes : List ClassDecl) (end : EndOf) → IsTurn cs first turn → IsEndAt cs turn end → ((c : Name) → place cs c ≡ Some first → classes ≡ filter has_members (ancestry cs c)) → IsChainAt cs first classes end
+chain_is cs first turn classes end turns ends kept c e = (end_at_turn cs first turn end turns ends c e, kept c e)
 
 -- ---- comparing places
 

@@ -1,4 +1,5 @@
 pub mod Acceptance
+pub mod Ancestors
 pub mod Climb
 pub mod Climbing
 pub mod Closed

@@ -1,6 +1,6 @@
 -- The classes of a chain, and the nearest one in which something is found.
-use Rattle.std.proofs.Common.{◌≡◌, List, [], ◌∷◌, ◌++◌, map, Option, Some, None, refl, sym, ap, ◌∙◌, subst, arith, inl, inr, cond}
-use Rattle.std.specs.Prelude.{Contains, find, option_map, option_and_then, is_some}
+use Rattle.std.proofs.Common.{◌≡◌, List, [], ◌∷◌, ◌++◌, map, Option, Some, None, refl, sym, ap, ◌∙◌, subst, arith, inl, inr}
+use Rattle.std.specs.Prelude.{Contains}
 use Rattle.std.specs.Option.{option_map_or}
 use Rattle.std.specs.List.{filter_map, cons_option}
 use Rattle.std.proofs.lemmas.List.Elements.{Contains-append_right}
@@ -134,23 +134,3 @@ is_from_nearest {A} own cs c owner found e = by (chain_of cs c) refl
         let p = parts_of own cs chain.0 owner found along in
         let is = is_chain_of cs c chain.0 chain.1 g in
         record { nearer = p.nearer; farther = p.farther; end = chain.1; is_chain = subst (λ (xs : List Name). IsChain cs c xs chain.1) p.is is; none_nearer = p.none_nearer; here = p.here }
-
--- ---- by a test
-
--- the first class that passes a test is the owner of what is found where the test is passed
-pub nearest_by_find : {A : Type 0} (own : ClassDecl → Option A) (ks : List ClassDecl)
-    → nearest own ks ≡ option_and_then (λ k. option_map (λ a. (k.name, a)) (own k)) (find (λ k. is_some (own k)) ks)
-nearest_by_find own [] = refl
-nearest_by_find {A} own (k ∷ ks) = by (own k) refl (nearest_by_find own ks)
-  where
-    by : (o : Option A) → own k ≡ o → nearest own ks ≡ option_and_then (λ j. option_map (λ a. (j.name, a)) (own j)) (find (λ j. is_some (own j)) ks)
-        → or_farther k.name o (nearest own ks) ≡ option_and_then (λ j. option_map (λ a. (j.name, a)) (own j)) (cond (is_some o) (Some k) (find (λ j. is_some (own j)) ks))
-    by None e rest = rest
-    by (Some a) e rest = rw e refl
-
-pub nearest_none : {A : Type 0} (own : ClassDecl → Option A) (ks : List ClassDecl) → find (λ k. is_some (own k)) ks ≡ None → nearest own ks ≡ None
-nearest_none {A} own ks e = nearest_by_find own ks ∙ ap (option_and_then (λ (k : ClassDecl). option_map (λ a. (k.name, a)) (own k))) e
-
-pub nearest_some : {A : Type 0} (own : ClassDecl → Option A) (ks : List ClassDecl) (k : ClassDecl) (o : Option A) → find (λ k. is_some (own k)) ks ≡ Some k → own k ≡ o → nearest own ks ≡ option_map (λ a. (k.name, a)) o
-nearest_some {A} own ks k o e f =
-    nearest_by_find own ks ∙ (ap (option_and_then (λ (k : ClassDecl). option_map (λ a. (k.name, a)) (own k))) e ∙ ap (option_map (λ a. (k.name, a))) f)

@@ -127,7 +127,7 @@ under_row : {A : Type 0} (n owner : Name) (x : A) (o f : Option (Name × A)) (g 
 under_row n owner x o f g true e = refl
 under_row n owner x o f g false e = e
 
-under_own : {A : Type 0} (name : A → Name) (n owner : Name) (xs : List A) (others : List (Name × (Name × A)))
+pub under_own : {A : Type 0} (name : A → Name) (n owner : Name) (xs : List A) (others : List (Name × (Name × A)))
     → under n (map (λ a. (name a, (owner, a))) xs ++ others) ≡ or_farther owner (find (λ a. bytes_eq (name a) n) xs) (under n others)
 under_own name n owner [] others = refl
 under_own {A} name n owner (x ∷ xs) others =
@@ -146,6 +146,15 @@ under_along name own n (k ∷ ks) =
 
 pub firsts_ascend : {A : Type 0} (es : List (Name × A)) → AreAscending (keys_of (names.entries (names.from_entries {R = by_bytes} es)))
 firsts_ascend es = ascending_keys _ (names.entries_sorted (names.from_entries {R = by_bytes} es))
+
+-- each row of a table stands under its own name
+pub table_named : {A : Type 0} (name : A → Name) (own : ClassDecl → List A) (ks : List ClassDecl) → AllNamed (λ (r : Name × A). name r.1) (names.entries (names.from_entries {R = by_bytes} (all_along name own ks)))
+table_named {A} name own ks =
+    let all : List (Name × (Name × A)) = all_along name own ks in
+    let table : List (Name × (Name × A)) = names.entries (names.from_entries {R = by_bytes} all) in
+    all_from_each (λ (e : Name × (Name × A)). e.0 ≡ name e.1.1) table (λ e h.
+        let at = found e.0 e.1 table (firsts_ascend all) h in
+        each_from_all (λ (f : Name × (Name × A)). f.0 ≡ name f.1.1) all (along_named name own ks) e (stands e.0 e.1 all (sym (under_first e.0 all) ∙ at)))
 
 -- the table of what these classes declare
 pub is_table : {A : Type 0} (name : A → Name) (own : ClassDecl → List A) (ks : List ClassDecl) (IsMember : Name → A → Type 0)
@@ -173,6 +182,4 @@ is_table {A} name own ks IsMember there back = record {
     says n = under_first n all ∙ under_along name own n ks
 
     named : AllNamed (λ (r : Name × A). name r.1) table
-    named = all_from_each _ table (λ e h.
-        let at = found e.0 e.1 table up h in
-        each_from_all (λ (f : Name × (Name × A)). f.0 ≡ name f.1.1) all (along_named name own ks) e (stands e.0 e.1 all (sym (under_first e.0 all) ∙ at)))
+    named = table_named name own ks

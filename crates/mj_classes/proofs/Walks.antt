@@ -1,6 +1,6 @@
 -- Walks up the superclasses, which find what stands in a chain.
 use Rattle.std.proofs.Common.{◌≡◌, ℕ, zero, suc, ◌+◌, ◌-◌, ◌<◌, ◌≤◌, Bool, true, false, List, [], ◌∷◌, length, Option, Some, None, refl, sym, ap, ◌∙◌, subst, arith, ◌⊎◌, inl, inr, cond}
-use Rattle.std.specs.Prelude.{find, option_map, option_and_then, is_some, ◌||◌, map, if◌then◌else◌, slice_get}
+use Rattle.std.specs.Prelude.{find, option_and_then, is_some, ◌||◌, map, if◌then◌else◌, slice_get}
 use Rattle.std.specs.Str.{bytes_eq}
 use Rattle.std.specs.List.{filter_map, cons_option}
 use Rattle.mj_tree.specs.Trees.{Name}
@@ -9,11 +9,11 @@ use Rattle.mj_members.specs.Declarations.{ClassDecl}
 use Rattle.mj_classes.specs.Declarations.{decl, place, superclass_places}
 use Rattle.mj_classes.specs.Chains.{EndOf, Links, IsChain, is_in, chain_names, chain_of, ancestry}
 use Rattle.mj_classes.proofs.Distinct.{In}
-use Rattle.mj_classes.proofs.Climb.{decl_name, all_declared, links_declared, no_more, has_chain, has_none}
+use Rattle.mj_classes.proofs.Climb.{decl_name, all_declared, links_declared, no_more, has_chain}
 use Rattle.mj_classes.proofs.Distinct.{contains_in}
 use Rattle.mj_classes.proofs.Closed.{closed}
 use Rattle.mj_classes.proofs.Places.{above, place_class, step_up, step_above, none_above}
-use Rattle.mj_classes.proofs.Nearest.{ancestry_of_chain, ancestry_by, ancestry_names}
+use Rattle.mj_classes.proofs.Nearest.{ancestry_of_chain, ancestry_names}
 
 -- the first class that passes the test, of so many from this one up
 abbrev pub up : List ClassDecl → (ClassDecl → Bool) → ℕ → ClassDecl → Option ClassDecl
@@ -114,9 +114,6 @@ walk_finds cs p c k e = ap (find p) (ancestry_of_chain cs c chain end is) ∙ by
         let links : Links cs chain (c ∷ is.rest) end = subst (λ (xs : List Name). Links cs chain xs end) first is.links in
         let found : along cs p (c ∷ is.rest) ≡ Some j = subst (λ (xs : List Name). along cs p xs ≡ Some j) first f in
         f ∙ sym (met cs p chain c is.rest end k j (length cs) links e (omega (arith, few, ap length first)) found)
-
-pub nothing_undeclared : (cs : List ClassDecl) (p : ClassDecl → Bool) (c : Name) → decl cs c ≡ None → find p (ancestry cs c) ≡ None
-nothing_undeclared cs p c e = ap (find p) (ancestry_by cs c None (has_none cs c e))
 
 -- ---- a walk that comes back
 
@@ -287,7 +284,3 @@ is_some-find u (k ∷ ks) = by (bytes_eq k.name u) (is_some-find u ks)
 
 pub stands_above : (cs : List ClassDecl) (t u : Name) → is_some (find (λ k. bytes_eq k.name u) (ancestry cs t)) ≡ is_in (chain_names (chain_of cs t)) u
 stands_above cs t u = is_some-find u (ancestry cs t) ∙ ap (λ (ns : List Name). is_in ns u) (ancestry_names cs t)
-
-pub is_some_mapped : {A B : Type 0} (f : A → B) (o : Option A) → is_some (option_map f o) ≡ is_some o
-is_some_mapped f None = refl
-is_some_mapped f (Some a) = refl

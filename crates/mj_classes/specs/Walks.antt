@@ -1,28 +1,11 @@
--- Walks up a chain, and what they look for.
-use Rattle.std.specs.Prelude.{get_or, ◌≡◌, ◌⊎◌, ℕ, ◌<◌, ◌≤◌, List, length, map, take, filter, Option, Some, None, option_map, option_and_then, unwrap_or, Bool, true, false, if◌then◌else◌, is_some, slice_get}
+-- Walks up a chain by the places of its classes.
+use Rattle.std.specs.Prelude.{get_or, ◌≡◌, ◌⊎◌, ℕ, ◌<◌, ◌≤◌, List, length, map, take, filter, Option, Some, None, option_map, option_and_then, unwrap_or, Bool, true, false, if◌then◌else◌, slice_get}
 use Rattle.std.specs.List.{filter_map}
-use denote.Ref.{Bor}
-use Rattle.std.specs.Str.{bytes_eq}
 use Rattle.mj_tree.specs.Trees.{Name}
 use Rattle.mj_members.specs.Declarations.{ClassDecl, has_members}
 use Rattle.mj_classes.specs.Declarations.{decl, place, superclass_places}
 use Rattle.mj_classes.specs.Chains.{EndOf, Top, Undeclared, Repeated, IsChain, chain_of, ancestry}
-use Rattle.mj_classes.specs.Members.{own_field, own_method}
-use Rattle.mj_members.specs.Classes.{class_ref_view}
 use Rattle.mj_classes.specs.Steps.{led}
-use Rattle.mj_classes.specs.declared.own.OwnMembers.{OwnMembers}
-use Rattle.mj_classes.specs.declared.lookup.Sought.{Sought}
-use Rattle.mj_classes.specs.declared.lookup.Sought.TheVariants.{Class, Field, Method}
-
--- whether a class is what is looked for, or declares it
-abbrev pub is_sought : Sought → ClassDecl → Bool
-is_sought (Class u) k = bytes_eq k.name u.now
-is_sought (Field x) k = is_some (own_field x.now k)
-is_sought (Method m) k = is_some (own_method m.now k)
-
--- the class at a place of the declarations
-abbrev pub own_view : Bor OwnMembers → ClassDecl
-own_view own = class_ref_view own.now.class
 
 -- ---- chains by places
 

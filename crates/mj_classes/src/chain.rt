@@ -51,6 +51,15 @@ impl<'a> Declarations<'a> {
         }
     }
 
+    /// How the chain of a class ends, or `None` where the class isn't declared.
+    pub fn chain_end(&self, name: &Name) -> Option<End<'a>>
+        ensures { option_map end_view result
+            ≡ option_map (λ chain. chain.1) (chain_of (declared_in self.now) name.now) }
+    {
+        let first = self.place(name)?;
+        Some(self.end_at(self.turn_at(first)))
+    }
+
     /// The chain of the class at this place.
     fn climb(&self, alloc: Global, first: usize) -> Result<ClassChain<'a>, AllocError>
         requires { IsFirstPlace (declared_in self.now) first }

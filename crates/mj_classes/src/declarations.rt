@@ -11,7 +11,6 @@ ghost use Rattle.mj_members.specs.Classes.{class_ref_view, classes_view};
 ghost use Rattle.mj_classes.specs.Classes.{files_view};
 ghost use Rattle.mj_classes.specs.Walks.{AreStepsUp, AreTurns, AreNearest, IsTurn, IsNearestAt};
 
-use crate::own::OwnMembers;
 use crate::steps::{ends, turns};
 use mj_lexer::Name;
 use mj_members::{AnyClassTree, ClassRef};
@@ -28,8 +27,6 @@ pub struct Declarations<'a> {
     superclasses: Vec<Option<usize>>,
     /// For each class whether it declares a field or a method.
     declares: Vec<bool>,
-    /// For each class what it declares itself.
-    members: Vec<OwnMembers<'a>>,
     /// For each class where a walk up from it turns: at a class without a declared superclass, or where it enters a ring.
     turns: Vec<usize>,
     /// For each class where a walk up from it ends that halts at the first one which declares a field or a method.
@@ -40,7 +37,6 @@ pub struct Declarations<'a> {
     ghost flagged: { declares.items ≡ map has_members (classes_view classes.items) },
     ghost turned: { AreTurns (classes_view classes.items) turns.items },
     ghost near: { AreNearest (classes_view classes.items) nearest.items },
-    ghost listed: { map (λ m. m.class) members.items ≡ classes.items },
 }
 
 impl<'a> Declarations<'a> {
@@ -57,13 +53,11 @@ impl<'a> Declarations<'a> {
         let steps = steps_up(alloc, &superclasses)?;
         let turns = turns(alloc, &steps)?;
         let nearest = ends(alloc, &steps, &declares)?;
-        let members = own_members(alloc, &classes)?;
         Ok(Declarations {
             classes,
             by_name,
             superclasses,
             declares,
-            members,
             turns,
             nearest,
         })
@@ -85,14 +79,14 @@ impl<'a> Declarations<'a> {
     }
 
     /// The place of the first class of a name.
-    pub(crate) fn place(&self, name: &Name) -> Option<usize>
+    pub fn place(&self, name: &Name) -> Option<usize>
         ensures { result ≡ place (declared_in self.now) name.now }
     {
         self.by_name.get(name).copied()
     }
 
     /// The class at this place.
-    pub(crate) fn class_at(&self, at: usize) -> ClassRef<'a>
+    pub fn class_at(&self, at: usize) -> ClassRef<'a>
         requires { at < length (declared_in self.now) }
         ensures { slice_get (declared_in self.now) at ≡ Some (class_ref_view result) }
     {
@@ -100,7 +94,7 @@ impl<'a> Declarations<'a> {
     }
 
     /// The place of the class that the one at this place extends, if that is declared.
-    pub(crate) fn superclass_of(&self, at: usize) -> Option<usize>
+    pub fn superclass_of(&self, at: usize) -> Option<usize>
         requires { at < length (declared_in self.now) }
         ensures { slice_get (superclass_places (declared_in self.now)) at ≡ Some result }
     {
@@ -108,7 +102,7 @@ impl<'a> Declarations<'a> {
     }
 
     /// Where a walk up from the class at this place turns.
-    pub(crate) fn turn_at(&self, at: usize) -> usize
+    pub fn turn_at(&self, at: usize) -> usize
         requires { at < length (declared_in self.now) }
         ensures { IsTurn (declared_in self.now) at result }
     {
@@ -126,14 +120,6 @@ impl<'a> Declarations<'a> {
         } else {
             None
         }
-    }
-
-    /// What the class at this place declares itself.
-    pub(crate) fn own_at(&self, at: usize) -> &OwnMembers<'a>
-        requires { at < length (declared_in self.now) }
-        ensures { slice_get (declared_in self.now) at ≡ Some (class_ref_view result.now.class) }
-    {
-        &self.members[at]
     }
 }
 
@@ -262,18 +248,4 @@ fn flag_members(alloc: Global, classes: &[ClassRef]) -> Result<Vec<bool>, AllocE
         flags.push(class.has_members())?;
     }
     Ok(flags)
-}
-
-/// What each class declares itself.
-fn own_members<'a>(
-    alloc: Global,
-    classes: &[ClassRef<'a>],
-) -> Result<Vec<OwnMembers<'a>>, AllocError>
-    ensures { IfOk result (λ v. map (λ m. m.class) v.items ≡ classes.now) }
-{
-    let mut members = Vec::new(alloc);
-    for class in classes {
-        members.push(OwnMembers::new(alloc, *class)?)?;
-    }
-    Ok(members)
 }

@@ -19,7 +19,7 @@ use denote.Ref.{Bor}
 use Rattle.mj_tree.specs.Trees.{Name}
 use Rattle.mj_tree.proofs.Positions.{none_of}
 use Rattle.mj_members.specs.Declarations.{ClassDecl}
-use Rattle.mj_members.specs.Tables.{own_rows, all_along, firsts}
+use Rattle.mj_members.specs.Tables.{own_rows, named_rows, all_along, firsts}
 use Rattle.mj_members.specs.Rows.{rows_by, SayAlike}
 use Rattle.mj_members.proofs.Tables.{by_bytes, under, firsts_are}
 
@@ -116,29 +116,56 @@ rows_more {Y} {A} view name owner ys n y lt is =
     ∙ (map-append (λ (a : A). (name a, (owner, a))) (map view (take n ys)) (view (get_or ys n y) ∷ [])
     ∙ ap (λ (z : Y). own_rows name owner (map view (take n ys)) ++ (name (view z), (owner, view z)) ∷ []) (sym is)))
 
+-- the rows of members, with one more
+members_more : {X A : Type 0} (seen : X → Name × A) (name : A → Name) (ys : List X) (n : ℕ) (y : X) → n < length ys → y ≡ get_or ys n y
+    → named_rows name (map seen (take (n + 1) ys)) ≡ named_rows name (map seen (take n ys)) ++ (name (seen y).1, seen y) ∷ []
+members_more {X} {A} seen name ys n y lt is =
+    ap (λ (zs : List X). named_rows name (map seen zs)) (take_more ys n y lt)
+    ∙ (ap (named_rows name) (map-append seen (take n ys) (get_or ys n y ∷ []))
+    ∙ (map-append (λ (r : Name × A). (name r.1, r)) (map seen (take n ys)) (seen (get_or ys n y) ∷ [])
+    ∙ ap (λ (z : X). named_rows name (map seen (take n ys)) ++ (name (seen z).1, seen z) ∷ []) (sym is)))
+
 -- the name of the next is there already
+entry_kept : {X A : Type 0} (seen : X → A) (rows : List (Bor Name × X)) (before earlier later : List (Name × A)) (k : Name) (v : A)
+    → later ≡ earlier ++ (k, v) ∷ [] → SayAlike (rows_by seen rows) (before ++ earlier) → is_some (stored k rows) ≡ true → SayAlike (rows_by seen rows) (before ++ later)
+entry_kept {X} {A} seen rows before earlier later k v one h there =
+    let has : is_some (under k (rows_by seen rows)) ≡ true = sym (rows_has seen rows k) ∙ there in
+    let more : before ++ later ≡ (before ++ earlier) ++ (k, v) ∷ [] = ap (λ (zs : List (Name × A)). before ++ zs) one ∙ sym (append_assoc before earlier ((k, v) ∷ [])) in
+    subst (SayAlike (rows_by seen rows)) (sym more) (alike_kept (rows_by seen rows) (before ++ earlier) k v h has)
+
 pub row_kept : {X Y A : Type 0} (seen : X → Name × A) (view : Y → A) (name : A → Name) (owner : Name) (ys : List Y) (n : ℕ) (y : Y) (rows : List (Bor Name × X)) (before : List (Name × (Name × A)))
     → n < length ys → y ≡ get_or ys n y → SayAlike (rows_by seen rows) (before ++ own_rows name owner (map view (take n ys)))
     → is_some (stored (name (view y)) rows) ≡ true → SayAlike (rows_by seen rows) (before ++ own_rows name owner (map view (take (n + 1) ys)))
-row_kept {X} {Y} {A} seen view name owner ys n y rows before lt is h there =
-    let has : is_some (under (name (view y)) (rows_by seen rows)) ≡ true = sym (rows_has seen rows (name (view y))) ∙ there in
-    let more : before ++ own_rows name owner (map view (take (n + 1) ys)) ≡ (before ++ own_rows name owner (map view (take n ys))) ++ (name (view y), (owner, view y)) ∷ [] =
-    ap (λ (zs : List (Name × (Name × A))). before ++ zs) (rows_more view name owner ys n y lt is) ∙ sym (append_assoc before (own_rows name owner (map view (take n ys))) ((name (view y), (owner, view y)) ∷ [])) in
-    subst (SayAlike (rows_by seen rows)) (sym more) (alike_kept (rows_by seen rows) (before ++ own_rows name owner (map view (take n ys))) (name (view y)) (owner, view y) h has)
+row_kept seen view name owner ys n y rows before lt is h there = entry_kept seen rows before _ _ (name (view y)) (owner, view y) (rows_more view name owner ys n y lt is) h there
+
+pub member_kept : {X A : Type 0} (seen : X → Name × A) (name : A → Name) (ys : List X) (n : ℕ) (y : X) (rows : List (Bor Name × X)) (before : List (Name × (Name × A)))
+    → n < length ys → y ≡ get_or ys n y → SayAlike (rows_by seen rows) (before ++ named_rows name (map seen (take n ys)))
+    → is_some (stored (name (seen y).1) rows) ≡ true → SayAlike (rows_by seen rows) (before ++ named_rows name (map seen (take (n + 1) ys)))
+member_kept seen name ys n y rows before lt is h there = entry_kept seen rows before _ _ (name (seen y).1) (seen y) (members_more seen name ys n y lt is) h there
 
 -- the name of the next is new
+entry_added : {X A : Type 0} (seen : X → A) (rows after : List (Bor Name × X)) (before earlier later : List (Name × A)) (n : Name) (v : A) (k : Bor Name) (x : X)
+    → later ≡ earlier ++ (n, v) ∷ [] → SayAlike (rows_by seen rows) (before ++ earlier) → k.now ≡ n → seen x ≡ v
+    → is_some (stored n rows) ≡ false → after ≡ insert_entry name_order rows k x → SayAlike (rows_by seen after) (before ++ later)
+entry_added {X} {A} seen rows after before earlier later n v k x one h key value new put =
+    let has : is_some (under n (rows_by seen rows)) ≡ false = sym (rows_has seen rows n) ∙ new in
+    let more : before ++ later ≡ (before ++ earlier) ++ (n, v) ∷ [] = ap (λ (zs : List (Name × A)). before ++ zs) one ∙ sym (append_assoc before earlier ((n, v) ∷ [])) in
+    let there : rows_by seen after ≡ entries.put by_bytes n v (rows_by seen rows) =
+    ap (rows_by seen) put ∙ (rows_insert seen rows k x ∙ (ap (λ (m : Name). entries.put by_bytes m (seen x) (rows_by seen rows)) key ∙ ap (λ (r : A). entries.put by_bytes n r (rows_by seen rows)) value)) in
+    subst (λ (zs : List (Name × A)). SayAlike zs (before ++ later)) (sym there)
+    (subst (SayAlike (entries.put by_bytes n v (rows_by seen rows))) (sym more) (alike_put (rows_by seen rows) (before ++ earlier) n v h has))
+
 pub row_added : {X Y A : Type 0} (seen : X → Name × A) (view : Y → A) (name : A → Name) (owner : Name) (ys : List Y) (n : ℕ) (y : Y) (rows after : List (Bor Name × X)) (before : List (Name × (Name × A))) (k : Bor Name) (x : X)
     → n < length ys → y ≡ get_or ys n y → SayAlike (rows_by seen rows) (before ++ own_rows name owner (map view (take n ys))) → k.now ≡ name (view y) → seen x ≡ (owner, view y)
     → is_some (stored (name (view y)) rows) ≡ false → after ≡ insert_entry name_order rows k x → SayAlike (rows_by seen after) (before ++ own_rows name owner (map view (take (n + 1) ys)))
-row_added {X} {Y} {A} seen view name owner ys n y rows after before k x lt is h key value new put =
-    let has : is_some (under (name (view y)) (rows_by seen rows)) ≡ false = sym (rows_has seen rows (name (view y))) ∙ new in
-    let more : before ++ own_rows name owner (map view (take (n + 1) ys)) ≡ (before ++ own_rows name owner (map view (take n ys))) ++ (name (view y), (owner, view y)) ∷ [] =
-    ap (λ (zs : List (Name × (Name × A))). before ++ zs) (rows_more view name owner ys n y lt is) ∙ sym (append_assoc before (own_rows name owner (map view (take n ys))) ((name (view y), (owner, view y)) ∷ [])) in
-    let there : rows_by seen after ≡ entries.put by_bytes (name (view y)) (owner, view y) (rows_by seen rows) =
-    ap (rows_by seen) put ∙ (rows_insert seen rows k x ∙ (ap (λ (m : Name). entries.put by_bytes m (seen x) (rows_by seen rows)) key ∙ ap (λ (r : Name × A). entries.put by_bytes (name (view y)) r (rows_by seen rows)) value)) in
-    subst (λ (zs : List (Name × (Name × A))). SayAlike zs (before ++ own_rows name owner (map view (take (n + 1) ys)))) (sym there)
-    (subst (SayAlike (entries.put by_bytes (name (view y)) (owner, view y) (rows_by seen rows))) (sym more)
-    (alike_put (rows_by seen rows) (before ++ own_rows name owner (map view (take n ys))) (name (view y)) (owner, view y) h has))
+row_added seen view name owner ys n y rows after before k x lt is h key value new put =
+    entry_added seen rows after before _ _ (name (view y)) (owner, view y) k x (rows_more view name owner ys n y lt is) h key value new put
+
+pub member_added : {X A : Type 0} (seen : X → Name × A) (name : A → Name) (ys : List X) (n : ℕ) (y : X) (rows after : List (Bor Name × X)) (before : List (Name × (Name × A))) (k : Bor Name) (x : X)
+    → n < length ys → y ≡ get_or ys n y → SayAlike (rows_by seen rows) (before ++ named_rows name (map seen (take n ys))) → k.now ≡ name (seen y).1 → x ≡ y
+    → is_some (stored (name (seen y).1) rows) ≡ false → after ≡ insert_entry name_order rows k x → SayAlike (rows_by seen after) (before ++ named_rows name (map seen (take (n + 1) ys)))
+member_added seen name ys n y rows after before k x lt is h key value new put =
+    entry_added seen rows after before _ _ (name (seen y).1) (seen y) k x (members_more seen name ys n y lt is) h key (ap seen value) new put
 
 -- at the end of the loop
 pub all_rows : {X Y A : Type 0} (seen : X → Name × A) (view : Y → A) (name : A → Name) (ys : List Y) (own : List A) (before : List (Name × (Name × A))) (rows : List (Bor Name × X)) (owner owner' : Name) (n : ℕ)
@@ -146,6 +173,10 @@ pub all_rows : {X Y A : Type 0} (seen : X → Name × A) (view : Y → A) (name 
 all_rows {X} {Y} {A} seen view name ys own before rows owner owner' n le h e is =
     subst (λ (m : Name). SayAlike (rows_by seen rows) (before ++ own_rows name m own)) e
     (subst (λ (zs : List A). SayAlike (rows_by seen rows) (before ++ own_rows name owner zs)) (ap (map view) (take_all n ys le) ∙ is) h)
+
+pub all_members : {X A : Type 0} (seen : X → Name × A) (name : A → Name) (ys : List X) (before : List (Name × (Name × A))) (rows : List (Bor Name × X)) (n : ℕ)
+    → length ys ≤ n → SayAlike (rows_by seen rows) (before ++ named_rows name (map seen (take n ys))) → SayAlike (rows_by seen rows) (before ++ named_rows name (map seen ys))
+all_members {X} seen name ys before rows n le h = subst (λ (zs : List X). SayAlike (rows_by seen rows) (before ++ named_rows name (map seen zs))) (take_all n ys le) h
 
 -- ---- one class more
 
@@ -160,8 +191,16 @@ class_added {X} {A} seen name own rows after ks more k h added is n =
     ap (all_along name own) is ∙ (along-append name own ks (k ∷ []) ∙ ap (λ (rs : List (Name × (Name × A))). all_along name own ks ++ rs) (append-nil (own_rows name k.name (own k)))) in
     added n ∙ (alike_append (rows_by seen rows) (all_along name own ks) (own_rows name k.name (own k)) h n ∙ ap (under n) (sym all))
 
+-- what is added to rows stands behind what they say
+pub alike_then : {A : Type 0} (rows after before more : List (Name × A)) → SayAlike rows before → SayAlike after (rows ++ more) → SayAlike after (before ++ more)
+alike_then rows after before more h added n = added n ∙ alike_append rows before more h n
+
 -- ---- the table
+
+pub table_from : {X A : Type 0} (seen : X → A) (rows : List (Bor Name × X)) (xs : List X) (es : List (Name × A))
+    → IsStrictlySortedBy name_order (keys_of rows) → SayAlike (rows_by seen rows) es → xs ≡ values_of rows → map seen xs ≡ firsts es
+table_from seen rows xs es up h is = ap (map seen) is ∙ (sym (values_rows seen rows) ∙ firsts_are (rows_by seen rows) es (sorted_rows seen rows up) h)
 
 pub table_of : {X A : Type 0} (seen : X → Name × A) (name : A → Name) (own : ClassDecl → List A) (rows : List (Bor Name × X)) (xs : List X) (ks : List ClassDecl)
     → IsStrictlySortedBy name_order (keys_of rows) → SayAlike (rows_by seen rows) (all_along name own ks) → xs ≡ values_of rows → map seen xs ≡ firsts (all_along name own ks)
-table_of seen name own rows xs ks up h is = ap (map seen) is ∙ (sym (values_rows seen rows) ∙ firsts_are (rows_by seen rows) (all_along name own ks) (sorted_rows seen rows up) h)
+table_of seen name own rows xs ks up h is = table_from seen rows xs (all_along name own ks) up h is

@@ -5,4 +5,7 @@ mod class;
 mod member;
 
 pub use class::{AnyClassTree, ClassRef};
-pub use member::{FieldMember, MethodMember, field_table, in_order, method_table};
+pub use member::{
+    FieldMember, MethodMember, field_table, field_table_over, in_order, method_table,
+    method_table_over,
+};

@@ -4,10 +4,11 @@ ghost use Rattle.std.specs.BTreeMap.{values, IsOrdered};
 ghost use Rattle.std.specs.Ordering.{nat_cmp};
 ghost use Rattle.std.specs.Cmp.Lexicographic.{slice_cmp};
 ghost use Rattle.mj_members.specs.Rows.{field_rows, method_rows, SayAlike};
-ghost use Rattle.mj_members.specs.Tables.{own_rows, fields_along, methods_along};
+ghost use Rattle.mj_members.specs.Tables.{own_rows, named_rows, fields_along, methods_along, fields_over, methods_over};
 ghost use Rattle.mj_members.specs.Classes.{classes_view, class_ref_view, field_member_view, method_member_view};
 
 use crate::class::ClassRef;
+use mj_answer::Named;
 use mj_lexer::Name;
 use mj_tree::{Field, MethodTree};
 use std::alloc::{AllocError, Global};
@@ -25,6 +26,22 @@ pub struct FieldMember<'a> {
 pub struct MethodMember<'a> {
     pub owner: &'a Name,
     pub method: &'a MethodTree,
+}
+
+impl<'a> Named for FieldMember<'a> {
+    ghost name_of = { λ member. (field_member_view member).1.name };
+
+    fn name(&self) -> &Name {
+        &self.field.name
+    }
+}
+
+impl<'a> Named for MethodMember<'a> {
+    ghost name_of = { λ member. (method_member_view member).1.name };
+
+    fn name(&self) -> &Name {
+        &self.method.name
+    }
 }
 
 /// The fields that these classes declare, each name once: that of the first class which declares it. They ascend by
@@ -56,6 +73,40 @@ pub fn method_table<'a>(
     for class in classes {
         add_methods(&mut rows, class)?;
     }
+    in_order(alloc, &rows)
+}
+
+/// The fields of a class laid over those of its superclass: of each name the one that the class declares first, or else
+/// that of the superclass. They ascend by name.
+pub fn field_table_over<'a>(
+    alloc: Global,
+    class: &ClassRef<'a>,
+    inherited: &[FieldMember<'a>],
+) -> Result<Vec<FieldMember<'a>>, AllocError>
+    ensures { IfOk result (λ v.
+        map field_member_view v.items
+        ≡ fields_over (class_ref_view class.now) (map field_member_view inherited.now)) }
+{
+    let mut rows = BTreeMap::new(alloc);
+    add_fields(&mut rows, class)?;
+    add_inherited_fields(&mut rows, inherited)?;
+    in_order(alloc, &rows)
+}
+
+/// The methods of a class laid over those of its superclass: of each name the one that the class declares first, or else
+/// that of the superclass. They ascend by name.
+pub fn method_table_over<'a>(
+    alloc: Global,
+    class: &ClassRef<'a>,
+    inherited: &[MethodMember<'a>],
+) -> Result<Vec<MethodMember<'a>>, AllocError>
+    ensures { IfOk result (λ v.
+        map method_member_view v.items
+        ≡ methods_over (class_ref_view class.now) (map method_member_view inherited.now)) }
+{
+    let mut rows = BTreeMap::new(alloc);
+    add_methods(&mut rows, class)?;
+    add_inherited_methods(&mut rows, inherited)?;
     in_order(alloc, &rows)
 }
 
@@ -96,6 +147,44 @@ fn add_methods<'a>(
         let name = &method.name;
         if !rows.contains_key(&name) {
             rows.insert(name, MethodMember { owner, method })?;
+        }
+    }
+    Ok(())
+}
+
+/// Adds those of these fields whose names aren't there yet.
+fn add_inherited_fields<'a>(
+    rows: &mut BTreeMap<&'a Name, FieldMember<'a>>,
+    inherited: &[FieldMember<'a>],
+) -> Result<(), AllocError>
+    ensures { OnOk result
+        (SayAlike (field_rows rows.new.entries)
+        (field_rows rows.old.entries
+        ++ named_rows (λ f. f.name) (map field_member_view inherited.now))) }
+{
+    for member in inherited {
+        let name = &member.field.name;
+        if !rows.contains_key(&name) {
+            rows.insert(name, *member)?;
+        }
+    }
+    Ok(())
+}
+
+/// Adds those of these methods whose names aren't there yet.
+fn add_inherited_methods<'a>(
+    rows: &mut BTreeMap<&'a Name, MethodMember<'a>>,
+    inherited: &[MethodMember<'a>],
+) -> Result<(), AllocError>
+    ensures { OnOk result
+        (SayAlike (method_rows rows.new.entries)
+        (method_rows rows.old.entries
+        ++ named_rows (λ m. m.name) (map method_member_view inherited.now))) }
+{
+    for member in inherited {
+        let name = &member.method.name;
+        if !rows.contains_key(&name) {
+            rows.insert(name, *member)?;
         }
     }
     Ok(())

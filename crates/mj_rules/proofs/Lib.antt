@@ -17,4 +17,3 @@ pub mod LowerLaws
 pub mod LowerBodies
 pub mod Acceptance
 pub mod WorldLaws
-pub mod Declaring

@@ -1,9 +1,8 @@
 -- A method found in a table is the nearest one.
-use Rattle.std.proofs.Common.{◌≡◌, ℕ, zero, suc, Bool, true, false, cond, List, [], ◌∷◌, map, slice_get, Option, Some, None, option_map, find, Contains, refl, sym, ap, ap₂, subst, ◌∙◌, bytes_eq, ◌+◌, ◌++◌, drop, if◌then◌else◌}
+use Rattle.std.proofs.Common.{◌≡◌, ℕ, zero, suc, Bool, true, false, cond, List, [], ◌∷◌, map, slice_get, Option, Some, None, option_map, find, Contains, refl, sym, ap, subst, ◌∙◌, bytes_eq}
 use Rattle.std.proofs.lemmas.Option.{none-some, same_Some}
 use Rattle.std.proofs.lemmas.Slice.Eq.{bytes_eq-Decides}
 use Rattle.mj_tree.specs.Trees.{Name, Method}
-use Rattle.mj_answer.specs.declared.diagnostic.Diagnostic.{Diagnostic}
 use Rattle.mj_answer.specs.AnswerValues.{MethodRowValue}
 use Rattle.mj_answer.proofs.Alike.{Contains-first, Contains-later}
 use Rattle.mj_members.specs.Declarations.{ClassDecl}
@@ -11,21 +10,12 @@ use Rattle.mj_classes.specs.Members.{nearest, or_farther, own_method}
 use Rattle.mj_members.specs.Tables.{methods_along}
 use Rattle.mj_classes.specs.Tables.{IsTable}
 use Rattle.mj_classes.proofs.Tables.{is_table}
-use Rattle.mj_rules.specs.FaultLists.{fault, each_numbered, nearest_sig, override_faults, method_faults_of}
-use Rattle.mj_tree.specs.declared.place.Place.TheVariants as places
+use Rattle.mj_rules.specs.FaultLists.{nearest_sig}
 use Rattle.mj_tree.proofs.Positions.{find-map}
-use Rattle.mj_answer.specs.declared.code.Code.TheVariants.{E204}
-use Rattle.mj_answer.specs.Order.{NameBefore, IsAscendingByName}
-use Rattle.mj_answer.proofs.Compared.{ascends}
-use Rattle.std.specs.Ordering.{nat_cmp}
-use Rattle.std.specs.Cmp.Lexicographic.{slice_cmp}
-use Rattle.mj_members.specs.Classes.{classes_view}
-use Rattle.mj_members.specs.declared.class.ClassRef.{ClassRef}
-use Rattle.profiles.specs.declared.profile.Profile.{Profile}
 use Rattle.mj_rules.specs.Worlds.{sig_of}
 use Rattle.mj_rules.specs.Tables.{method_row, row_sig, sig_in}
 use Rattle.mj_project.proofs.Listed.{place_of}
-use Rattle.mj_rules.proofs.TableLaws.{found_name, mapped}
+use Rattle.mj_rules.proofs.TableLaws.{found_name}
 
 -- the table of some classes has the nearest method of each name
 along_is_table : (ks : List ClassDecl) → IsTable (λ (m : Method). m.name) (λ owner m. nearest (own_method m.name) ks ≡ Some (owner, m)) (methods_along ks)
@@ -84,23 +74,3 @@ sig_in-rows ks x =
     let found = row_is_nearest (λ (m : Method). m.name) own_method (λ x k m e. found_name (λ (m : Method). m.name) x k.methods m e) (methods_along ks) ks (along_is_table ks) x (find (λ (r : Name × Method). bytes_eq r.1.name x) (methods_along ks)) (nearest (own_method x) ks) refl refl in
     ap (option_map row_sig) (find-map method_row (λ (r : MethodRowValue). bytes_eq r.name x) (methods_along ks) ∙ ap (option_map method_row) found)
     ∙ sig_of_rows (nearest (own_method x) ks)
-
--- numbered diagnostics by equal functions
-pub each_same : {A : Type 0} (f g : ℕ → Bool → A → List Diagnostic) → ((n : ℕ) (b : Bool) (x : A) → f n b x ≡ g n b x) → (n : ℕ) (xs : List A) (flags : List Bool) → each_numbered f n xs flags ≡ each_numbered g n xs flags
-each_same f g same n [] flags = refl
-each_same f g same n (x ∷ xs) [] = refl
-each_same f g same n (x ∷ xs) (flag ∷ flags) = ap₂ (λ (a b : List Diagnostic). a ++ b) (same n flag x) (each_same f g same (n + 1) xs flags)
-
--- the rows of a table ascend
-pub rows_ascend : (ks : List ClassDecl) → IsAscendingByName (λ (r : MethodRowValue). r.name) (map method_row (methods_along ks))
-rows_ascend ks = mapped method_row (λ (r : MethodRowValue). r.name) (methods_along ks) (ascends (slice_cmp nat_cmp) NameBefore (λ m n e. e) _ (along_is_table ks).ascending)
-
-pub methods_same : (profile : Profile) (cs ks : List ClassDecl) (rows : List MethodRowValue) → rows ≡ map method_row (methods_along ks) → (ms : List Method) (flags : List Bool)
-    → each_numbered (method_faults_of profile cs (sig_in rows)) 0 ms flags ≡ each_numbered (method_faults_of profile cs (nearest_sig ks)) 0 ms flags
-methods_same profile cs ks rows e ms flags =
-    each_same (method_faults_of profile cs (sig_in rows)) (method_faults_of profile cs (nearest_sig ks))
-    (λ n b m. ap (λ o. if b then fault (places.Method n) E204 ∷ [] else override_faults profile cs n m o) (ap (λ rs. sig_in rs m.name) e ∙ sig_in-rows ks m.name)) 0 ms flags
-
-pub view_behind : (cs : List ClassRef) → classes_view (drop 1 cs) ≡ drop 1 (classes_view cs)
-view_behind [] = refl
-view_behind (c ∷ cs) = refl

@@ -1,5 +1,5 @@
 -- The tables of classes as functions.
-use Rattle.std.specs.Prelude.{List, [], ◌∷◌, if◌then◌else◌, map, find, Option, option_map}
+use Rattle.std.specs.Prelude.{List, map, find, Option, option_map}
 use Rattle.std.specs.Str.{bytes_eq}
 use Rattle.mj_tree.specs.Trees.{Name, Method}
 use Rattle.mj_tree.specs.declared.tree.Field.{Field}
@@ -21,11 +21,6 @@ method_row found = record {
   formals = map (λ v. v.ty) found.1.formals;
   returns = found.1.returns;
 }
-
--- these classes without the first, where that has this name
-abbrev pub without_first : Name → List ClassDecl → List ClassDecl
-without_first c [] = []
-without_first c (k ∷ ks) = if bytes_eq k.name c then ks else k ∷ ks
 
 -- the table of a class that has these classes for its chain
 abbrev pub table_along : List ClassDecl → ClassTableValue

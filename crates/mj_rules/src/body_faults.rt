@@ -11,9 +11,10 @@ ghost use Rattle.mj_rules.specs.FaultLists.{each_numbered, inside, body_faults_o
 use crate::declaration_faults::repeated_methods;
 use crate::world::World;
 use mj_answer::Diagnostic;
-use mj_classes::{AnyClassTree, ClassRef, Declarations};
+use mj_classes::{AnyClassTree, ClassRef};
 use mj_lexer::Name;
 use mj_phrases::Mistake;
+use mj_tables::MemberTables;
 use mj_tree::{MethodTree, Place};
 use mj_typing::{main_mistakes, method_mistakes};
 use std::alloc::{AllocError, Global};
@@ -50,7 +51,7 @@ fn add_body(
         (faults.new.items
         ≡ faults.old.items
         ++ (if repeated then [] else inside (method_view method.now).name
-        (method_faults (world_of (declared_in world.now.declarations.now))
+        (method_faults (world_of (declared_in world.now.tables.now))
         class.now (method_view method.now)))) }
 {
     if repeated {
@@ -72,7 +73,7 @@ fn add_bodies(
         (faults.new.items
         ≡ faults.old.items
         ++ each_numbered
-        (body_faults_of (declared_in world.now.declarations.now) class.now) 0
+        (body_faults_of (declared_in world.now.tables.now) class.now) 0
         (map method_view methods.now)
         (repeats (map (λ m. m.name) (map method_view methods.now)))) }
 {
@@ -94,7 +95,7 @@ fn add_main(
     ensures { OnOk result
         (faults.new.items
         ≡ faults.old.items
-        ++ main_method_faults (declared_in world.now.declarations.now)
+        ++ main_method_faults (declared_in world.now.tables.now)
         (class_ref_view class.now) (class_ref_view class.now).main) }
 {
     match class.tree {
@@ -111,15 +112,15 @@ fn add_main(
 pub fn add_body_faults(
     alloc: Global,
     faults: &mut Vec<Diagnostic>,
-    declarations: &Declarations,
+    tables: &MemberTables,
     class: &ClassRef,
 ) -> Result<(), AllocError>
     ensures { OnOk result
         (faults.new.items
         ≡ faults.old.items
-        ++ body_faults (declared_in declarations.now) (class_ref_view class.now)) }
+        ++ body_faults (declared_in tables.now) (class_ref_view class.now)) }
 {
-    let world = World { declarations };
+    let world = World { tables };
     add_bodies(alloc, faults, &world, class.name(), class.methods())?;
     add_main(alloc, faults, &world, class)
 }

@@ -19,6 +19,7 @@ use mj_answer::{Answer, ClassAnswer, fault_set, name_set};
 use mj_classes::{ClassRef, Declarations};
 use mj_lexer::Name;
 use mj_project::Project;
+use mj_tables::MemberTables;
 use mj_tree::FileTree;
 use profiles::Profile;
 use std::alloc::{AllocError, Global};
@@ -27,21 +28,21 @@ use std::alloc::{AllocError, Global};
 fn class_answer(
     alloc: Global,
     profile: Profile,
-    declarations: &Declarations,
+    tables: &MemberTables,
     class: &ClassRef,
 ) -> Result<ClassAnswer, AllocError>
-    requires first { decl (declared_in declarations.now) (class_ref_view class.now).name
+    requires first { decl (declared_in tables.now) (class_ref_view class.now).name
         ≡ Some (class_ref_view class.now) }
-    requires fit { NamesFitIn (declared_in declarations.now) }
+    requires fit { NamesFitIn (declared_in tables.now) }
     ensures name { IfOk result (λ answer. answer.name ≡ (class_ref_view class.now).name) }
-    ensures rules { IfOk result (IsAnswerFor profile (declared_in declarations.now)) }
+    ensures rules { IfOk result (IsAnswerFor profile (declared_in tables.now)) }
 {
-    let Some(chain) = declarations.chain(alloc, class.name())? else {
+    let Some(members) = tables.table(class.name()) else {
         unreachable!();
     };
-    let table = class_table(alloc, &chain.classes)?;
-    let mut faults = declaration_faults(alloc, profile, declarations, class, &chain)?;
-    add_body_faults(alloc, &mut faults, declarations, class)?;
+    let table = class_table(alloc, members)?;
+    let mut faults = declaration_faults(alloc, profile, tables, class)?;
+    add_body_faults(alloc, &mut faults, tables, class)?;
     let name = class.name().copy(alloc)?;
     Ok(ClassAnswer::new(name, table, fault_set(faults)))
 }
@@ -65,19 +66,20 @@ fn declared_names(alloc: Global, declarations: &Declarations) -> Result<Vec<Name
 fn class_answers(
     alloc: Global,
     profile: Profile,
-    declarations: &Declarations,
+    tables: &MemberTables,
 ) -> Result<Vec<ClassAnswer>, AllocError>
-    requires { NamesFitIn (declared_in declarations.now) }
+    requires { NamesFitIn (declared_in tables.now) }
     ensures { IfOk result (λ answers.
-        AreClassAnswers profile (declared_in declarations.now) answers.items) }
+        AreClassAnswers profile (declared_in tables.now) answers.items) }
 {
+    let declarations = tables.declarations();
     let names = declared_names(alloc, declarations)?;
     let mut answers = Vec::new(alloc);
     for name in &names {
         let Some(class) = declarations.find(name) else {
             unreachable!();
         };
-        answers.push(class_answer(alloc, profile, declarations, &class)?)?;
+        answers.push(class_answer(alloc, profile, tables, &class)?)?;
     }
     Ok(answers)
 }
@@ -94,7 +96,8 @@ pub fn answer_for_as(
 {
     let declarations = Declarations::new(alloc, trees)?;
     let faults = project_faults(alloc, project, trees, declarations.classes())?;
-    let classes = class_answers(alloc, profile, &declarations)?;
+    let tables = MemberTables::new(alloc, declarations)?;
+    let classes = class_answers(alloc, profile, &tables)?;
     Ok(Answer::new(fault_set(faults), classes))
 }
 

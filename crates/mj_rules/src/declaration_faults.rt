@@ -1,24 +1,19 @@
 //! The diagnostics of the declarations of a class.
-ghost use Rattle.std.specs.Prelude.{◌≡◌, ◌++◌, map, filter, Some, IfOk, OnOk, is_some, option_map};
+ghost use Rattle.std.specs.Prelude.{◌≡◌, ◌++◌, map, Some, IfOk, OnOk, is_some};
 ghost use Rattle.mj_tree.specs.Views.{method_view};
-ghost use Rattle.mj_answer.specs.Order.{IsAscendingByName};
-ghost use Rattle.mj_members.specs.Declarations.{has_members};
 ghost use Rattle.mj_classes.specs.Declarations.{decl};
-ghost use Rattle.mj_classes.specs.Chains.{chain_of, ancestry};
-ghost use Rattle.mj_members.specs.Classes.{class_ref_view, classes_view};
-ghost use Rattle.mj_classes.specs.Classes.{end_view};
+ghost use Rattle.mj_classes.specs.Chains.{chain_of};
+ghost use Rattle.mj_members.specs.Classes.{class_ref_view};
 ghost use Rattle.mj_classes.specs.Index.{declared_in};
 ghost use Rattle.mj_project.specs.Repeats.{repeats};
-ghost use Rattle.mj_rules.specs.Tables.{sig_in, without_first};
-ghost use Rattle.mj_rules.specs.FaultLists.{when_fault, each_numbered, superclass_faults, is_cycle, is_undeclared, field_faults, same_type, same_types, same_signature, accepts, may_override, override_faults, method_faults_of, nearest_sig, declaration_faults};
-ghost use Rattle.mj_tree.specs.declared.place.Place.TheVariants as places;
-ghost use Rattle.mj_answer.specs.declared.code.Code.TheVariants.{E202};
+ghost use Rattle.mj_rules.specs.Worlds.{sig_of};
+ghost use Rattle.mj_rules.specs.FaultLists.{each_numbered, superclass_faults, chain_faults, is_undeclared, field_faults, same_type, same_types, same_signature, accepts, may_override, override_faults, method_faults_of, rest_of, nearest_sig, declaration_faults};
 
-use crate::tables::method_rows;
-use mj_answer::{Code, Diagnostic, MethodRow, find_by_name};
-use mj_classes::{ClassChain, ClassRef, Declarations, End};
+use mj_answer::{Code, Diagnostic};
+use mj_classes::{ClassRef, Declarations, End};
 use mj_lexer::Name;
 use mj_project::repeats;
+use mj_tables::MemberTables;
 use mj_tree::{Field, MethodTree, Place, Ty, Variable};
 use profiles::Profile;
 use std::alloc::{AllocError, Global};
@@ -62,12 +57,16 @@ pub fn add_superclass_fault(
 }
 
 /// Adds the diagnostic of a class whose chain runs into a cycle.
-pub fn add_chain_fault(faults: &mut Vec<Diagnostic>, end: &End) -> Result<(), AllocError>
+pub fn add_chain_fault(
+    faults: &mut Vec<Diagnostic>,
+    declarations: &Declarations,
+    class: &Name,
+) -> Result<(), AllocError>
     ensures { OnOk result
         (faults.new.items
-        ≡ faults.old.items ++ when_fault (is_cycle (end_view end.now)) places.Class E202) }
+        ≡ faults.old.items ++ chain_faults (chain_of (declared_in declarations.now) class.now)) }
 {
-    if let End::Repeated(_) = end {
+    if let Some(End::Repeated(_)) = declarations.chain_end(class) {
         faults.push(Diagnostic {
             place: Place::Class,
             code: Code::E202,
@@ -155,14 +154,15 @@ pub fn same_type(ty: &Ty, other: &Ty) -> bool
     ty == other
 }
 
-fn same_types(formals: &[Variable], types: &[Ty]) -> bool
-    ensures { result ≡ same_types formals.now types.now }
+/// Whether parameters have the types of others.
+fn same_types(formals: &[Variable], others: &[Variable]) -> bool
+    ensures { result ≡ same_types formals.now (map (λ v. v.ty) others.now) }
 {
-    if formals.len() != types.len() {
+    if formals.len() != others.len() {
         return false;
     }
     for (number, formal) in formals.iter().enumerate() {
-        if !same_type(&formal.ty, &types[number]) {
+        if !same_type(&formal.ty, &others[number].ty) {
             return false;
         }
     }
@@ -170,12 +170,10 @@ fn same_types(formals: &[Variable], types: &[Ty]) -> bool
 }
 
 /// Whether a method has the parameter types and the return type of another.
-fn same_signature(method: &MethodTree, other: &MethodRow) -> bool
-    ensures { result
-        ≡ same_signature (method_view method.now)
-        (record { formals = other.now.formals; returns = other.now.returns }) }
+fn same_signature(method: &MethodTree, other: &MethodTree) -> bool
+    ensures { result ≡ same_signature (method_view method.now) (sig_of (method_view other.now)) }
 {
-    same_type(&method.returns, other.returns()) && same_types(&method.formals, other.formals())
+    same_type(&method.returns, &other.returns) && same_types(&method.formals, &other.formals)
 }
 
 /// Whether a type is accepted by another.
@@ -199,39 +197,41 @@ fn may_override(
     profile: Profile,
     declarations: &Declarations,
     method: &MethodTree,
-    other: &MethodRow,
+    other: &MethodTree,
 ) -> bool
     ensures { result
         ≡ may_override profile (declared_in declarations.now) (method_view method.now)
-        (record { formals = other.now.formals; returns = other.now.returns }) }
+        (sig_of (method_view other.now)) }
 {
     match profile {
         Profile::One => same_signature(method, other),
         Profile::Two => {
-            same_types(&method.formals, other.formals())
-                && accepts(declarations, &method.returns, other.returns())
+            same_types(&method.formals, &other.formals)
+                && accepts(declarations, &method.returns, &other.returns)
         }
     }
 }
 
-/// Adds the diagnostic of a method that may not override the one of its name in the rest of its class's chain.
+/// Adds the diagnostic of a method that may not override the one of its name behind its class in the chain.
 fn add_override(
     profile: Profile,
     faults: &mut Vec<Diagnostic>,
-    declarations: &Declarations,
-    rest: &[MethodRow],
+    tables: &MemberTables,
+    class: &ClassRef,
     number: usize,
     method: &MethodTree,
 ) -> Result<(), AllocError>
-    requires { IsAscendingByName (λ row. row.name) rest.now }
+    requires { decl (declared_in tables.now) (class_ref_view class.now).name
+        ≡ Some (class_ref_view class.now) }
     ensures { OnOk result
         (faults.new.items
         ≡ faults.old.items
-        ++ override_faults profile (declared_in declarations.now) number
-        (method_view method.now) (sig_in rest.now (method_view method.now).name)) }
+        ++ override_faults profile (declared_in tables.now) number (method_view method.now)
+        (nearest_sig (rest_of (declared_in tables.now) (class_ref_view class.now).name)
+        (method_view method.now).name)) }
 {
-    if let Some(other) = find_by_name(rest, &method.name) {
-        if !may_override(profile, declarations, method, other) {
+    if let Some(other) = tables.method_behind(class, &method.name) {
+        if !may_override(profile, tables.declarations(), method, other.method) {
             faults.push(Diagnostic {
                 place: Place::Method(number),
                 code: Code::E205,
@@ -241,21 +241,23 @@ fn add_override(
     Ok(())
 }
 
-/// Adds what is wrong with the methods of a class; these are the methods of the rest of its chain.
+/// Adds what is wrong with these methods of a class.
 pub fn add_methods(
     alloc: Global,
     profile: Profile,
     faults: &mut Vec<Diagnostic>,
-    declarations: &Declarations,
-    rest: &[MethodRow],
+    tables: &MemberTables,
+    class: &ClassRef,
     methods: &[MethodTree],
 ) -> Result<(), AllocError>
-    requires { IsAscendingByName (λ row. row.name) rest.now }
+    requires { decl (declared_in tables.now) (class_ref_view class.now).name
+        ≡ Some (class_ref_view class.now) }
     ensures { OnOk result
         (faults.new.items
         ≡ faults.old.items
         ++ each_numbered
-        (method_faults_of profile (declared_in declarations.now) (sig_in rest.now)) 0
+        (method_faults_of profile (declared_in tables.now)
+        (nearest_sig (rest_of (declared_in tables.now) (class_ref_view class.now).name))) 0
         (map method_view methods.now)
         (repeats (map (λ m. m.name) (map method_view methods.now)))) }
 {
@@ -268,79 +270,29 @@ pub fn add_methods(
                 code: Code::E204,
             })?;
         } else {
-            add_override(profile, faults, declarations, rest, number, method)?;
+            add_override(profile, faults, tables, class, number, method)?;
         }
     }
     Ok(())
 }
 
-/// These classes without the first, where that has this name.
-fn without_first<'a, 'b>(name: &Name, classes: &'b [ClassRef<'a>]) -> &'b [ClassRef<'a>]
-    ensures { classes_view result.now ≡ without_first name.now (classes_view classes.now) }
-{
-    match classes.first() {
-        Some(class) if class.name() == name => &classes[1..],
-        _ => classes,
-    }
-}
-
-/// Adds what is wrong with the methods of a class that has this name, and these classes of its chain declare members.
-fn add_method_faults(
-    alloc: Global,
-    profile: Profile,
-    faults: &mut Vec<Diagnostic>,
-    declarations: &Declarations,
-    name: &Name,
-    classes: &[ClassRef],
-    methods: &[MethodTree],
-) -> Result<(), AllocError>
-    ensures { OnOk result
-        (faults.new.items
-        ≡ faults.old.items
-        ++ each_numbered
-        (method_faults_of profile (declared_in declarations.now)
-        (nearest_sig (without_first name.now (classes_view classes.now)))) 0
-        (map method_view methods.now)
-        (repeats (map (λ m. m.name) (map method_view methods.now)))) }
-{
-    if methods.is_empty() {
-        return Ok(());
-    }
-    let rest = method_rows(alloc, without_first(name, classes))?;
-    add_methods(alloc, profile, faults, declarations, &rest, methods)
-}
-
-/// The diagnostics of the declarations of a class with this chain.
+/// The diagnostics of the declarations of a class, the first one of its name.
 pub fn declaration_faults(
     alloc: Global,
     profile: Profile,
-    declarations: &Declarations,
+    tables: &MemberTables,
     class: &ClassRef,
-    chain: &ClassChain,
 ) -> Result<Vec<Diagnostic>, AllocError>
-    requires end { option_map (λ found. found.1)
-        (chain_of (declared_in declarations.now) (class_ref_view class.now).name)
-        ≡ Some (end_view chain.now.end) }
-    requires classes { classes_view chain.now.classes.items
-        ≡ filter has_members
-        (ancestry (declared_in declarations.now) (class_ref_view class.now).name) }
+    requires { decl (declared_in tables.now) (class_ref_view class.now).name
+        ≡ Some (class_ref_view class.now) }
     ensures { IfOk result (λ faults.
-        faults.items
-        ≡ declaration_faults profile (declared_in declarations.now)
-        (class_ref_view class.now)) }
+        faults.items ≡ declaration_faults profile (declared_in tables.now) (class_ref_view class.now)) }
 {
+    let declarations = tables.declarations();
     let mut faults = Vec::new(alloc);
     add_superclass_fault(&mut faults, declarations, class)?;
-    add_chain_fault(&mut faults, &chain.end)?;
+    add_chain_fault(&mut faults, declarations, class.name())?;
     add_fields(alloc, &mut faults, declarations, class.fields())?;
-    add_method_faults(
-        alloc,
-        profile,
-        &mut faults,
-        declarations,
-        class.name(),
-        &chain.classes,
-        class.methods(),
-    )?;
+    add_methods(alloc, profile, &mut faults, tables, class, class.methods())?;
     Ok(faults)
 }

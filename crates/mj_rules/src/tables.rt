@@ -1,11 +1,11 @@
 //! The tables of classes.
 ghost use Rattle.std.specs.Prelude.{◌≡◌, map, IfOk};
-ghost use Rattle.mj_members.specs.Classes.{classes_view, field_member_view, method_member_view};
-ghost use Rattle.mj_members.specs.Tables.{fields_along, methods_along};
-ghost use Rattle.mj_rules.specs.Tables.{field_row, method_row, table_along};
+ghost use Rattle.mj_members.specs.Classes.{field_member_view, method_member_view};
+ghost use Rattle.mj_rules.specs.Tables.{field_row, method_row};
 
 use mj_answer::{ClassTable, FieldRow, MethodRow};
-use mj_classes::{ClassRef, FieldMember, MethodMember, field_table, method_table};
+use mj_classes::{FieldMember, MethodMember};
+use mj_tables::MemberTable;
 use mj_tree::{Ty, Variable};
 use std::alloc::{AllocError, Global};
 
@@ -41,36 +41,36 @@ fn method_row(alloc: Global, member: &MethodMember) -> Result<MethodRow, AllocEr
     Ok(MethodRow::new(name, owner, formals, returns))
 }
 
-fn field_rows(alloc: Global, classes: &[ClassRef]) -> Result<Vec<FieldRow>, AllocError>
+fn field_rows(alloc: Global, members: &[FieldMember]) -> Result<Vec<FieldRow>, AllocError>
     ensures { IfOk result (λ rows.
-        rows.items ≡ map field_row (fields_along (classes_view classes.now))) }
+        rows.items ≡ map field_row (map field_member_view members.now)) }
 {
-    let members = field_table(alloc, classes)?;
     let mut rows = Vec::new(alloc);
-    for member in &members {
+    for member in members {
         rows.push(field_row(alloc, member)?)?;
     }
     Ok(rows)
 }
 
-/// The methods that these classes have, the nearest of each name, ascending by name.
-pub fn method_rows(alloc: Global, classes: &[ClassRef]) -> Result<Vec<MethodRow>, AllocError>
+fn method_rows(alloc: Global, members: &[MethodMember]) -> Result<Vec<MethodRow>, AllocError>
     ensures { IfOk result (λ rows.
-        rows.items ≡ map method_row (methods_along (classes_view classes.now))) }
+        rows.items ≡ map method_row (map method_member_view members.now)) }
 {
-    let members = method_table(alloc, classes)?;
     let mut rows = Vec::new(alloc);
-    for member in &members {
+    for member in members {
         rows.push(method_row(alloc, member)?)?;
     }
     Ok(rows)
 }
 
-/// The table of a class that has these classes for its chain.
-pub fn class_table(alloc: Global, classes: &[ClassRef]) -> Result<ClassTable, AllocError>
-    ensures { IfOk result (λ table. table ≡ table_along (classes_view classes.now)) }
+/// The table of a class that has these members, as it is answered.
+pub fn class_table(alloc: Global, members: &MemberTable) -> Result<ClassTable, AllocError>
+    ensures fields { IfOk result (λ table.
+        table.fields ≡ map field_row (map field_member_view members.now.fields.items)) }
+    ensures methods { IfOk result (λ table.
+        table.methods ≡ map method_row (map method_member_view members.now.methods.items)) }
 {
-    let fields = field_rows(alloc, classes)?;
-    let methods = method_rows(alloc, classes)?;
+    let fields = field_rows(alloc, &members.fields)?;
+    let methods = method_rows(alloc, &members.methods)?;
     Ok(ClassTable::new(fields, methods))
 }

@@ -14,6 +14,6 @@ bounds-flags-number c =
 pub loop-number-preserved : goal.loop-number-preserved
 loop-number-preserved c =
     let within : c.loop-number.number < length c.args.methods.now = omega arith in
-    named_step method_view (λ (m : Method). m.name) (body_faults_of (declared_in c.args.world.now.declarations.now) c.args.class.now) c.args.methods.now c.as_slice-flags.result.now c.loop-number.number c.index-methods-number.result c.loop-number.faults.items c.add_body.new.faults.items
+    named_step method_view (λ (m : Method). m.name) (body_faults_of (declared_in c.args.world.now.tables.now) c.args.class.now) c.args.methods.now c.as_slice-flags.result.now c.loop-number.number c.index-methods-number.result c.loop-number.faults.items c.add_body.new.faults.items
     (c.as_slice-flags.ensures.value ∙ c.in_ok-repeated.ensures) within c.index-methods-number.is c.in_ok-add_body.ensures
     ∙ c.loop-number.invariant

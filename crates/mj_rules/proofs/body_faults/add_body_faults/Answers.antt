@@ -14,7 +14,7 @@ follows P Q (Err e) f h = tt
 pub returns : goal.returns
 unfolding body_faults
 returns c =
-    let cs = declared_in c.args.declarations.now in
+    let cs = declared_in c.args.tables.now in
     let k = class_ref_view c.args.class.now in
     let bodies = each_numbered (body_faults_of cs k.name) 0 k.methods (repeats (method_names k)) in
     let listed : c.add_bodies.new.faults.items ≡ c.args.faults.now.items ++ bodies =

@@ -1,4 +1,4 @@
-use Rattle.std.proofs.Common.{◌≡◌, ◌∙◌, ◌++◌, ◌∷◌, [], ◌<◌, ◌≤◌, List, All, Some, length, map, take, refl, sym, ap, subst, arith, take_all}
+use Rattle.std.proofs.Common.{◌≡◌, ◌↔◌, ℕ, Contains, ◌∙◌, ◌++◌, ◌∷◌, [], ◌<◌, ◌≤◌, List, All, Some, length, map, take, refl, sym, ap, subst, arith, take_all}
 use Rattle.std.proofs.lemmas.Option.{none-some}
 use Rattle.std.proofs.lemmas.List.{take_more, map-append}
 use Rattle.std.proofs.lemmas.List.Elements.{All-push}
@@ -9,6 +9,7 @@ use Rattle.mj_classes.specs.Declarations.{decl}
 use Rattle.mj_members.specs.Classes.{class_ref_view}
 use Rattle.mj_classes.specs.Index.{declared_in}
 use Rattle.mj_classes.proofs.Climb.{decl_name}
+use Rattle.mj_rules.specs.FaultLists.{class_names}
 use Rattle.mj_rules.specs.Rules.{IsAnswerFor}
 use Rattle.mj_project.proofs.Listed.{contains_at}
 use Rattle.mj_rules.proofs.Answering.{is_named}
@@ -17,24 +18,26 @@ use Rattle.mj_rules.proofs.checker.class_answers.Goals as goal
 
 pub unreachable-requires : goal.unreachable-requires
 unreachable-requires c =
-    let cs = declared_in c.args.declarations.now in
+    let cs = declared_in c.args.tables.now in
     let within : c.loop-name.name-index < length c.deref-name-items.result.now = omega arith in
     let stands = contains_at c.deref-name-items.result.now c.loop-name.name-index c.name-item.result (read_at c.deref-name-items.result.now c.loop-name.name-index c.name-item.result within c.name-item.is) in
-    let named = (c.in_ok-names.ensures.same c.name-item.result).0 (rw c.deref-name-items.ensures.value at stands) in
+    let same = c.declarations-declarations.ensures in
+    let listed : (n : List ℕ) → Contains c.in_ok-names.names.items n ↔ Contains (class_names cs) n = subst (λ d. (n : List ℕ) → Contains c.in_ok-names.names.items n ↔ Contains (class_names (declared_in d)) n) same c.in_ok-names.ensures.same in
+    let named = (listed c.name-item.result).0 (rw c.deref-name-items.ensures.value at stands) in
     let k = is_named cs c.name-item.result (decl cs c.name-item.result) refl named in
-    none-some k.0 (c.in_default.ensures ∙ k.1)
+    none-some k.0 (c.in_default.ensures ∙ (ap (λ d. decl (declared_in d) c.name-item.result) same ∙ k.1))
 
 pub class_answer-requires-clause-first : goal.class_answer-requires-clause-first
 class_answer-requires-clause-first c =
-    let cs = declared_in c.args.declarations.now in
-    let here : decl cs c.name-item.result ≡ Some (class_ref_view c.in-Some.class) = sym c.in-Some.ensures in
+    let cs = declared_in c.args.tables.now in
+    let here : decl cs c.name-item.result ≡ Some (class_ref_view c.in-Some.class) = ap (λ d. decl (declared_in d) c.name-item.result) (sym c.declarations-declarations.ensures) ∙ sym c.in-Some.ensures in
     ap (decl cs) (decl_name cs c.name-item.result (class_ref_view c.in-Some.class) here) ∙ here
 
 pub loop-name-preserved : goal.loop-name-preserved
 loop-name-preserved c =
-    let cs = declared_in c.args.declarations.now in
+    let cs = declared_in c.args.tables.now in
     let within : c.loop-name.name-index < length c.deref-name-items.result.now = omega arith in
-    let here : decl cs c.name-item.result ≡ Some (class_ref_view c.in-Some.class) = sym c.in-Some.ensures in
+    let here : decl cs c.name-item.result ≡ Some (class_ref_view c.in-Some.class) = ap (λ d. decl (declared_in d) c.name-item.result) (sym c.declarations-declarations.ensures) ∙ sym c.in-Some.ensures in
     let name : c.in_ok-class_answer.field-0.name ≡ c.name-item.result = c.in_ok-class_answer.ensures.name ∙ decl_name cs c.name-item.result (class_ref_view c.in-Some.class) here in
     let more = take_more c.deref-name-items.result.now c.loop-name.name-index c.name-item.result within ∙ ap (λ (n : Name). take c.loop-name.name-index c.deref-name-items.result.now ++ n ∷ []) (sym c.name-item.is) in
     record {
@@ -49,5 +52,7 @@ loop-name-preserved c =
 pub returns : goal.returns
 returns c =
     let end : length c.deref-name-items.result.now ≤ c.loop-name.name-index = omega arith in
-    class_answers c.args.profile (declared_in c.args.declarations.now) c.loop-name.answers.items c.in_ok-names.names.items c.in_ok-names.ensures.ascending c.in_ok-names.ensures.same
+    let cs = declared_in c.args.tables.now in
+    let listed : (n : List ℕ) → Contains c.in_ok-names.names.items n ↔ Contains (class_names cs) n = subst (λ d. (n : List ℕ) → Contains c.in_ok-names.names.items n ↔ Contains (class_names (declared_in d)) n) c.declarations-declarations.ensures c.in_ok-names.ensures.same in
+    class_answers c.args.profile cs c.loop-name.answers.items c.in_ok-names.names.items c.in_ok-names.ensures.ascending listed
     (c.loop-name.invariant.named ∙ (take_all c.loop-name.name-index c.deref-name-items.result.now end ∙ c.deref-name-items.ensures.value)) c.loop-name.invariant.each

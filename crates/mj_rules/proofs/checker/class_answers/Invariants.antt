@@ -6,5 +6,5 @@ use Rattle.mj_rules.proofs.checker.class_answers.Given as goal
 abbrev pub invariant-loop-name : goal.invariant-loop-name
 invariant-loop-name l = record {
   named : map (λ a. a.name) l.answers.items ≡ take l.name-index l.name-items;
-  each : All (IsAnswerFor l.profile (declared_in l.declarations)) l.answers.items;
+  each : All (IsAnswerFor l.profile (declared_in l.tables)) l.answers.items;
 }

@@ -2,8 +2,8 @@ use Rattle.std.proofs.Common.{◌≡◌, ◌<◌, ◌∙◌, ◌++◌, length, g
 use Rattle.mj_tree.specs.Trees.{Method}
 use Rattle.mj_tree.specs.Views.{method_view}
 use Rattle.mj_classes.specs.Index.{declared_in}
-use Rattle.mj_rules.specs.Tables.{sig_in}
-use Rattle.mj_rules.specs.FaultLists.{method_faults_of}
+use Rattle.mj_members.specs.Classes.{class_ref_view}
+use Rattle.mj_rules.specs.FaultLists.{method_faults_of, nearest_sig, rest_of}
 use Rattle.mj_rules.proofs.Steps.{flag_is, flag_of_each, named_step}
 use Rattle.mj_rules.proofs.declaration_faults.add_methods.Goals as goal
 use Rattle.mj_rules.proofs.declaration_faults.add_methods.Goals.{then-flags-number+in_ok-push, else-flags-number+in_ok-add_override}
@@ -18,7 +18,7 @@ loop-number-preserved c =
     let within : c.loop-number.number < length c.args.methods.now = omega arith in
     let flag = get_or c.as_slice-flags.result.now c.loop-number.number false in
     let m = method_view c.index-methods-number.result in
-    let faults = method_faults_of c.args.profile (declared_in c.args.declarations.now) (sig_in c.args.rest.now) in
+    let faults = method_faults_of c.args.profile (declared_in c.args.tables.now) (nearest_sig (rest_of (declared_in c.args.tables.now) (class_ref_view c.args.class.now).name)) in
     let added : c.if-flags-number.faults.items ≡ c.loop-number.faults.items ++ faults c.loop-number.number flag m =
     elim c.if-flags-number.branch [
       | then-flags-number+in_ok-push w ↦

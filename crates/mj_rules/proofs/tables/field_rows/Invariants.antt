@@ -4,4 +4,4 @@ use Rattle.mj_rules.specs.Tables.{field_row}
 use Rattle.mj_rules.proofs.tables.field_rows.Given as goal
 
 abbrev pub invariant-loop-member : goal.invariant-loop-member
-invariant-loop-member l = l.rows.items ≡ map field_row (map field_member_view (take l.member-index l.member-items))
+invariant-loop-member l = l.rows.items ≡ map field_row (map field_member_view (take l.member-index l.members))
