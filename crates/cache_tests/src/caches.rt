@@ -29,8 +29,8 @@ fn summary_of(start: &Start) -> Summary {
     }
 }
 
-fn look<R: Files + AllocGlobal>(rt: &R, dir: &str) -> Result<Summary, Fail> {
-    Ok(summary_of(&find_start(rt, dir)?))
+fn look<R: Files + AllocGlobal + Threads + Sync>(rt: &R, dir: &str) -> Result<Summary, Fail> {
+    Ok(summary_of(&find_start(rt, dir, 1)?))
 }
 
 /// Writes the first session of a chain, which has no records.

@@ -13,6 +13,7 @@ use std::alloc::Global;
 use std::fs;
 use std::rt::Files;
 use std::test::*;
+use std::thread::Threads;
 
 /// What becomes of a session's file.
 #[derive(Clone, Copy)]
@@ -374,14 +375,18 @@ fn clear<R: Files + AllocGlobal>(rt: &R) {
     let _ = fs::remove_dir_all(rt, DIR);
 }
 
-/// Where the next session begins behind these files.
-fn start_behind<R: Files + AllocGlobal>(rt: &R, files: &[Stored]) -> Result<Start, Fail> {
+/// Where the next session begins behind these files, by so many workers.
+fn start_behind<R: Files + AllocGlobal + Threads + Sync>(
+    rt: &R,
+    files: &[Stored],
+    workers: usize,
+) -> Result<Start, Fail> {
     clear(rt);
     fs::create_dir_all(rt, "chains/c0000")?;
     for stored in files {
         store(rt, stored)?;
     }
-    let start = find_start(rt, DIR);
+    let start = find_start(rt, DIR, workers);
     clear(rt);
     start
 }
@@ -417,9 +422,18 @@ fn is_past(past: Option<&Session>, number: Option<u32>) -> bool {
     }
 }
 
-/// Whether the next session begins behind these files as it should.
-fn is_found<R: Files + AllocGlobal>(rt: &R, row: &Row) -> Result<bool, Fail> {
-    let start = start_behind(rt, row.files)?;
+/// Whether the next session begins behind these files as it should, by one worker and by several.
+fn is_found<R: Files + AllocGlobal + Threads + Sync>(rt: &R, row: &Row) -> Result<bool, Fail> {
+    Ok(is_found_by(rt, row, 1)? && is_found_by(rt, row, 2)? && is_found_by(rt, row, 4)?)
+}
+
+/// Whether it begins so by so many workers.
+fn is_found_by<R: Files + AllocGlobal + Threads + Sync>(
+    rt: &R,
+    row: &Row,
+    workers: usize,
+) -> Result<bool, Fail> {
+    let start = start_behind(rt, row.files, workers)?;
     Ok(
         is_past(start.past.as_deref(), row.past)
             && start.place == Some(place_of(row.past))

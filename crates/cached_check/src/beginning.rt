@@ -12,6 +12,7 @@ use sessions::Session;
 use std::alloc::{AllocError, Global};
 use std::rt::Files;
 use std::sync::Arc;
+use std::thread::Threads;
 
 /// Where the next session of a cache begins.
 #[derive(Drop)]
@@ -25,14 +26,20 @@ pub struct Beginning {
 }
 
 /// Where the next session begins in the cache of this folder: behind the last session of the last chain, or in a new chain
-/// where that one can't be followed. An empty word names no folder, and can't be read.
+/// where that one can't be followed. An empty word names no folder, and can't be read. So many workers read the last session,
+/// each in a thread of its own.
 #[tactic(auto, using(crate::proofs::Beginnings::begun))]
-pub fn begin<R: Files + AllocGlobal>(rt: &R, cache: &str) -> Result<Beginning, CacheReadFault>
+pub fn begin<R: Files + AllocGlobal, T: Threads + Sync>(
+    rt: &R,
+    threads: &T,
+    cache: &str,
+    workers: usize,
+) -> Result<Beginning, CacheReadFault>
     ensures begins { IfOk result (IsBeginning cache.now) }
     ensures unread { IfErr result (IsUnreadableCache cache.now) }
     ensures unnamed { cache.now ≡ [] → IsErrAnd result (IsUnreadable []) }
 {
-    match find_last(rt, cache) {
+    match find_last(rt, threads, cache, workers) {
         Ok(last) => Ok(begin_behind(rt.alloc(), cache, last)?),
         Err(fault) => Err(fault),
     }

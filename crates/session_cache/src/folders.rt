@@ -8,7 +8,7 @@ use crate::filling::{NewFile, write_to};
 use crate::names::{EntryKind, highest, numbers_in};
 use crate::place::{SessionPlace, chain_path};
 use crate::start::LastChain;
-use session_file::{FileFault, read, read_after, terms_of_start};
+use session_file::{FileFault, read_after_by, terms_of_start};
 use sessions::{Form, Session, Terms};
 use std::alloc::Global;
 use std::io::{BufWriter, ErrorKind, Read, Write};
@@ -20,8 +20,14 @@ use std::{fs, io};
 const BUFFER: usize = 65536;
 
 /// Reads the last file of the last chain in the cache of this folder, over those in front of it that it is taken from. A
-/// folder that doesn't exist is an empty cache. An empty word names no folder, and can't be read.
-pub fn find_last<R: Files + AllocGlobal>(rt: &R, dir: &str) -> Result<LastChain, CacheReadFault>
+/// folder that doesn't exist is an empty cache. An empty word names no folder, and can't be read. So many workers read, each
+/// in a thread of its own.
+pub fn find_last<R: Files + AllocGlobal, T: Threads + Sync>(
+    rt: &R,
+    threads: &T,
+    dir: &str,
+    workers: usize,
+) -> Result<LastChain, CacheReadFault>
     ensures last { IfOk result IsLastChain }
     ensures unread { IfErr result (IsUnreadableCache dir.now) }
     ensures unnamed { dir.now ≡ [] → IsErrAnd result (IsUnreadable []) }
@@ -35,16 +41,18 @@ pub fn find_last<R: Files + AllocGlobal>(rt: &R, dir: &str) -> Result<LastChain,
         Err(error) => return Err(unreadable(rt.alloc(), dir, &error)),
     };
     match highest(EntryKind::Chain, &chains) {
-        Some(chain) => last_in(rt, dir, chain),
+        Some(chain) => last_in(rt, threads, dir, chain, workers),
         None => Ok(LastChain::NoChain),
     }
 }
 
 /// Reads the last file of a chain, over those in front of it that it is taken from.
-fn last_in<R: Files + AllocGlobal>(
+fn last_in<R: Files + AllocGlobal, T: Threads + Sync>(
     rt: &R,
+    threads: &T,
     dir: &str,
     chain: u32,
+    workers: usize,
 ) -> Result<LastChain, CacheReadFault>
     requires { chain ≤ most }
     ensures last { IfOk result IsLastChain }
@@ -57,37 +65,45 @@ fn last_in<R: Files + AllocGlobal>(
     };
     let numbers = numbers_in(rt.alloc(), EntryKind::Session, &sessions)?;
     match numbers.split_last() {
-        Some((last, front)) => read_last(rt, dir, chain, *last, front),
+        Some((last, front)) => {
+            let place = SessionPlace {
+                chain,
+                number: *last,
+            };
+            read_last(rt, threads, dir, place, front, workers)
+        }
         None => Ok(LastChain::NoSession(chain)),
     }
 }
 
-/// Reads the last file of a chain. Where it is of form 2, those in front of it are read first.
-fn read_last<R: Files + AllocGlobal>(
+/// Reads the last file of a chain, which stands at this place. Where it is of form 2, those in front of it are read first.
+fn read_last<R: Files + AllocGlobal, T: Threads + Sync>(
     rt: &R,
+    threads: &T,
     dir: &str,
-    chain: u32,
-    number: u32,
+    place: SessionPlace,
     front: &[u32],
+    workers: usize,
 ) -> Result<LastChain, CacheReadFault>
-    requires chain { chain ≤ most }
-    requires number { number ≤ most }
+    requires place { IsSessionPlace place }
     requires front { All (λ n. n ≤ most) front.now }
     ensures last { IfOk result IsLastChain }
     ensures unread { IfErr result (IsUnreadableCache dir.now) }
 {
-    let place = SessionPlace { chain, number };
     let bytes = match bytes_at(rt, dir, place) {
         Ok(bytes) => bytes,
         Err(fault) => return Err(fault),
     };
     if !is_of_form_2(&bytes) {
-        return Ok(LastChain::File(place, read(rt.alloc(), &bytes)));
+        return Ok(LastChain::File(
+            place,
+            read_after_by(threads, rt.alloc(), None, &bytes, workers),
+        ));
     }
-    match read_front(rt, dir, chain, front) {
+    match read_front(rt, threads, dir, place.chain, front, workers) {
         Ok(ChainFront::Read(past)) => Ok(LastChain::File(
             place,
-            read_after(rt.alloc(), past.as_ref(), &bytes),
+            read_after_by(threads, rt.alloc(), past.as_ref(), &bytes, workers),
         )),
         Ok(ChainFront::Ended(place, read)) => Ok(LastChain::File(place, read)),
         Err(fault) => Err(fault),
@@ -177,11 +193,13 @@ fn start_in<R: Files + AllocGlobal>(rt: &R, path: &str) -> io::Result<Option<[u8
 
 /// Reads the files of these sessions of a chain from the last one on that isn't of form 2, each over the one before, up to the
 /// first that no session follows.
-fn read_front<R: Files + AllocGlobal>(
+fn read_front<R: Files + AllocGlobal, T: Threads + Sync>(
     rt: &R,
+    threads: &T,
     dir: &str,
     chain: u32,
     numbers: &[u32],
+    workers: usize,
 ) -> Result<ChainFront, CacheReadFault>
     requires chain { chain ≤ most }
     requires numbers { All (λ n. n ≤ most) numbers.now }
@@ -202,7 +220,7 @@ fn read_front<R: Files + AllocGlobal>(
             Ok(bytes) => bytes,
             Err(fault) => return Err(fault),
         };
-        match read_after(rt.alloc(), past.as_ref(), &bytes) {
+        match read_after_by(threads, rt.alloc(), past.as_ref(), &bytes, workers) {
             Ok(session) if session.number() == place.number => past = Some(session),
             read => return Ok(ChainFront::Ended(place, read)),
         }

@@ -87,7 +87,7 @@ fn check_project<R: Files + AllocGlobal, T: Threads + Wait + Sync>(
         messages,
         jobs,
     } = options;
-    let Beginning { past, place, notes } = begin(rt, cache)?;
+    let Beginning { past, place, notes } = begin(rt, threads, cache, jobs)?;
     let Some(place) = place else {
         return Err(Failure::CannotWrite(notes, String::from_str(alloc, cache)?));
     };

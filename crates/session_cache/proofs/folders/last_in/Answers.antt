@@ -5,7 +5,7 @@ use Rattle.session_cache.specs.Names.{most}
 use Rattle.session_cache.proofs.folders.last_in.Goals as goal
 
 pub read_last-requires-clause-front : goal.read_last-requires-clause-front
-read_last-requires-clause-front g c = λ k d lt.
+read_last-requires-clause-front g c = λ lives outlive k d lt.
     let front = c.in-Some.front.now in
     let last = c.in-Some.last.now in
     let parts = c.in-Some.ensures.cases in
