@@ -24,13 +24,14 @@
 extern "C" {
 #endif
 
-/* How a call ends: the program's exit statuses (3, a refused chain, is the end of no function here), and one more. */
+/* How a call ends: the program's exit statuses, and one more. */
 enum {
-    MJRG_CLEAN = 0,         /* there is no diagnostic, or what was asked for is written */
+    MJRG_CLEAN = 0,         /* there is no diagnostic, the chain is accepted, or what was asked for is written */
     MJRG_DIAGNOSTICS = 1,   /* the answer has diagnostics */
     MJRG_REFUSED = 2,       /* there is no answer: `err` has one line that says why */
-    MJRG_OUT_OF_MEMORY = 4, /* memory ran out: nothing is written, and both lengths are 0 */
-    MJRG_TOO_SMALL = 5      /* a buffer is too small for its text: neither is written, and both lengths are told */
+    MJRG_CHAIN_REFUSED = 3, /* the audit refuses the chain: `err` has one line that says why */
+    MJRG_OUT_OF_MEMORY = 4, /* memory ran out: nothing is written, and all lengths are 0 */
+    MJRG_TOO_SMALL = 5      /* a buffer is too small for what it gets: nothing is written, and all lengths are told */
 };
 
 /* The status, and how many bytes each text has. The texts have no zero byte at their end. */
@@ -39,6 +40,14 @@ typedef struct {
     size_t out_length;
     size_t err_length;
 } mjrg_result;
+
+/* The same of a call that makes a session, with how many bytes its file has: none if there is no session. */
+typedef struct {
+    uint32_t status;
+    size_t session_length;
+    size_t out_length;
+    size_t err_length;
+} mjrg_session_result;
 
 /* Writes into `out` what `mjrg --version` prints. The status is MJRG_CLEAN or MJRG_TOO_SMALL. */
 mjrg_result mjrg_version(uint8_t *out, size_t out_size);
@@ -68,6 +77,43 @@ mjrg_result mjrg_version(uint8_t *out, size_t out_size);
  *     refused: 3.1 RepeatedFile(2) */
 mjrg_result mjrg_scratch(const uint8_t *files, size_t files_size, uint32_t profile, uint32_t messages,
                          uint8_t *out, size_t out_size, uint8_t *err, size_t err_size);
+
+/* Checks a project over a previous session, as `mjrg check` does with one worker: what hasn't changed isn't run again. `session`
+ * gets the file of the next session, whose bytes are the program's; the caller keeps it, and hands it over with the next check.
+ * `out` gets the answer, and `err` a line for each diagnostic and one on the session. What the program notes of files that it
+ * can't follow is no part of it.
+ *
+ * `files` and `messages` are as for mjrg_scratch; `profile` and `form` are those of `--profile` and `--form`, 1 or 2. `past` has
+ * the files of the sessions before, from the last one of form 1 on (or from the first, if there is none), one behind the other up
+ * to the end; the last of them is the previous session. It is empty for the first session of a chain:
+ *
+ *     8 bytes   the length of the file, the most significant byte first
+ *               the file
+ *
+ * A past is believed, as the program believes its cache. What is refused, in this order (the caller may call again with no past):
+ *
+ *     refused: no profile 3                              as by mjrg_scratch
+ *     refused: no form 3                                 the form is neither 1 nor 2
+ *     refused: ...                                       the files, as by mjrg_scratch
+ *     refused: session file 2: its length is cut off     session file 2, counted from 0, is the first one that isn't whole
+ *     refused: session file 2: its bytes are cut off
+ *     refused: session file 2: 11.4 BadDigest            it is the file of no session over the one before
+ *     refused: session file 2: full                      its session is the last that a chain can have */
+mjrg_session_result mjrg_check(const uint8_t *files, size_t files_size, const uint8_t *past, size_t past_size, uint32_t profile,
+                               uint32_t form, uint32_t messages, uint8_t *session, size_t session_size, uint8_t *out,
+                               size_t out_size, uint8_t *err, size_t err_size);
+
+/* Audits a chain of sessions without believing it, as `mjrg audit` does: `out` gets the answer of its last session, and `err` the
+ * line on the chain. `chain` has all files of the chain, the first session's first, each behind its length as in a past. If
+ * `sources` isn't empty it has files as for mjrg_scratch, and the last session has to be one of just these. The status is
+ * MJRG_CLEAN if the chain is accepted, whether or not its answer has diagnostics. What is refused, in this order:
+ *
+ *     refused: ...                                       the sources, as by mjrg_scratch
+ *     refused: session file 2: its length is cut off     as by mjrg_check
+ *     refused: session file 2: its bytes are cut off
+ *     refused: 14.13 OtherResult(1, 12)                  as the program refuses the chain: the status is MJRG_CHAIN_REFUSED */
+mjrg_result mjrg_audit(const uint8_t *chain, size_t chain_size, const uint8_t *sources, size_t sources_size, uint8_t *out,
+                       size_t out_size, uint8_t *err, size_t err_size);
 
 #ifdef __cplusplus
 }

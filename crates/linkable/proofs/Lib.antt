@@ -1,2 +1,4 @@
 pub mod Buffers
+pub mod Lines
+pub mod PastRules
 pub mod Tells

@@ -1,4 +1,12 @@
+pub mod Auditing
+pub mod Chains
+pub mod Checking
 pub mod Handing
+pub mod Past
+pub mod PastSteps
+pub mod Projects
 pub mod Scratching
+pub mod Stopping
 pub mod Telling
+pub mod Terms
 pub mod Version

@@ -1,7 +1,7 @@
 -- What is told of files in memory that are checked from scratch.
-use Rattle.std.specs.Prelude.{◌≡◌, ◌⊎◌, ℕ, Bool, true, false, List, ◌++◌, codes, decimal}
+use Rattle.std.specs.Prelude.{◌≡◌, ◌⊎◌, ℕ, Bool, List}
 use Rattle.diagnostic_lines.specs.Lines.{IsFaultText, is_clean}
-use Rattle.scratch_report.specs.Refusals.{refusal_words}
+use Rattle.reports.specs.Refusals.{refusal_words}
 use Rattle.mj_project.specs.Projects.{SourceFile, IsProject, Refuses}
 use Rattle.mj_project.specs.declared.project.ProjectFault.{ProjectFault}
 use Rattle.mj_rules.specs.AnswerWords.{AnswerValue, text_of}
@@ -13,12 +13,8 @@ use Rattle.packed_files.specs.declared.flaws.UnpackFault.{UnpackFault}
 use Rattle.packed_files.specs.declared.flaws.UnpackFault.TheVariants as faults
 use Rattle.profiles.specs.Profiles.{profile_number}
 use Rattle.profiles.specs.declared.profile.Profile.{Profile}
-use Rattle.linkable.specs.Telling.{Telling, refusal}
-
--- an answer without diagnostics is clean
-abbrev pub answer_status : Bool → ℕ
-answer_status true = 0
-answer_status false = 1
+use Rattle.linkable.specs.Telling.{Telling, answer_status, refusal}
+use Rattle.linkable.specs.Terms.{no_profile_line}
 
 -- The answer that the rules of the profile give a project: its text, and a line for each of its
 -- diagnostics with its place, with its sentence and its source line if they are wanted.
@@ -62,10 +58,6 @@ pub record TellsNoFiles (bytes : List ℕ) (told : Telling) : Type 0 where
 abbrev pub TellsUnpacked : List ℕ → Profile → Bool → Telling → Type 0
 TellsUnpacked bytes profile messages told =
     TellsPacked bytes profile messages told ⊎ TellsNoFiles bytes told
-
--- refused: no profile 3
-abbrev pub no_profile_line : ℕ → List ℕ
-no_profile_line number = codes "refused: no profile " ++ decimal number ++ codes "\n"
 
 -- By the rules of the profile of this number.
 pub record TellsBy (bytes : List ℕ) (number : ℕ) (messages : Bool) (told : Telling) : Type 0 where

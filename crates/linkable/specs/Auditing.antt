@@ -1,0 +1,85 @@
+-- What an audit in memory tells.
+use Rattle.std.specs.Prelude.{◌≡◌, ◌⊎◌, ◌∷◌, ℕ, List, [], Option, Some, None}
+use Rattle.audit_graph.specs.declared.fault.AuditFault.{AuditFault}
+use Rattle.audit_replay.specs.Audits.{AreApart, HaveFiles, last_entry}
+use Rattle.graph_rules.specs.Next.{AreSources}
+use Rattle.mini_java.specs.Headline.{ChainRefuses, ChainRefusesAgainst, IsAcceptedAgainst, IsAcceptedChain, IsOfTheRules}
+use Rattle.mj_project.specs.Projects.{SourceFile}
+use Rattle.packed_files.specs.Runs.{packed_runs}
+use Rattle.profiles.specs.declared.profile.Profile.{Profile}
+use Rattle.reports.specs.Auditing.{AreAcceptedTexts}
+use Rattle.reports.specs.ChainWords.{chain_words}
+use Rattle.reports.specs.Refusals.{refused_line}
+use Rattle.reports.specs.declared.auditing.AuditTexts.{AuditTexts}
+use Rattle.result_bytes.specs.declared.value.Value.{Value}
+use Rattle.sessions.specs.Sessions.{SessionValue}
+use Rattle.linkable.specs.Chains.{AreNoChain}
+use Rattle.linkable.specs.Projects.{IsNoProjectIn, IsProjectIn}
+use Rattle.linkable.specs.Telling.{Telling, chain_refusal, chain_telling, refusal}
+
+-- the project of the sources that the bytes are, if there are any
+abbrev pub AreSourcesIn : List ℕ → Option (List SourceFile) → Type 0
+AreSourcesIn [] project = project ≡ None
+AreSourcesIn (b ∷ bytes) (Some files) = IsProjectIn (b ∷ bytes) files
+AreSourcesIn (b ∷ bytes) None = ⊥
+
+-- the files are accepted, and if there is a project the last session is one of just its files
+abbrev pub IsAcceptedOver : Option (List SourceFile) → List (List ℕ) → Profile → Value → ℕ → ℕ
+    → Type 0
+IsAcceptedOver None files profile v sessions runs = IsAcceptedChain files profile v sessions runs
+IsAcceptedOver (Some project) files profile v sessions runs =
+    IsAcceptedAgainst project files profile v sessions runs
+
+-- the files are refused, or if there is a project the last session isn't one of just its files
+abbrev pub RefusesOver : Option (List SourceFile) → List (List ℕ) → AuditFault → Type 0
+RefusesOver None files fault = ChainRefuses files fault
+RefusesOver (Some project) files fault = ChainRefusesAgainst project files fault
+
+-- Where no two different results that the sessions of these files record share a fingerprint, the answer
+-- is the one that the static rules of the last one's profile give its files.
+abbrev pub IsByTheRules : List (List ℕ) → Profile → Value → Type 0
+IsByTheRules files profile v =
+    (sessions : List SessionValue) (project : List SourceFile) → HaveFiles sessions files
+    → AreApart sessions → AreSources (last_entry sessions) project → IsOfTheRules profile project v
+
+-- The files make an accepted chain, whose texts are told. If there is a project, its files are those of
+-- the last session.
+pub record TellsAccepted (files : List (List ℕ)) (project : Option (List SourceFile))
+    (told : Telling) : Type 0 where
+  pub profile : Profile
+  pub v : Value
+  pub sessions : ℕ
+  pub runs : ℕ
+  pub accepted : IsAcceptedOver project files profile v sessions runs
+  pub headline : IsByTheRules files profile v
+  pub texts : AuditTexts
+  pub tells : AreAcceptedTexts v sessions runs texts
+  pub told_is : told ≡ chain_telling texts
+
+-- The files make no accepted chain, and why is told.
+pub record TellsRefused (files : List (List ℕ)) (project : Option (List SourceFile))
+    (told : Telling) : Type 0 where
+  pub fault : AuditFault
+  pub refused : RefusesOver project files fault
+  pub told_is : told ≡ chain_refusal (refused_line (chain_words fault))
+
+-- The files that the bytes are were audited, over the sources if there are any.
+pub record TellsAudited (chain sources : List ℕ) (told : Telling) : Type 0 where
+  pub files : List (List ℕ)
+  pub packed_are : packed_runs files ≡ chain
+  pub project : Option (List SourceFile)
+  pub project_is : AreSourcesIn sources project
+  pub tells : TellsAccepted files project told ⊎ TellsRefused files project told
+
+-- the line says why there is no audit: the sources are no project, or one of the files is cut off
+abbrev pub RefusesInput : List ℕ → List ℕ → List ℕ → Type 0
+RefusesInput chain sources line = IsNoProjectIn sources line ⊎ AreNoChain chain line
+
+-- Such a line alone.
+pub record TellsNoAudit (chain sources : List ℕ) (told : Telling) : Type 0 where
+  pub line : List ℕ
+  pub refuses : RefusesInput chain sources line
+  pub told_is : told ≡ refusal line
+
+abbrev pub TellsAudit : List ℕ → List ℕ → Telling → Type 0
+TellsAudit chain sources told = TellsAudited chain sources told ⊎ TellsNoAudit chain sources told

@@ -1,0 +1,5 @@
+pub mod Auditing
+pub mod ChainWords
+pub mod Checking
+pub mod Refusals
+pub mod Scratching
