@@ -5,14 +5,11 @@ ghost use Rattle.program_run.specs.Unread.{AreUnread, IsUnreadFile};
 ghost use Rattle.program_run.specs.declared.failure.Failure.TheVariants as failures;
 
 use crate::failure::Failure;
-use std::alloc::{AllocError, Global};
+use std::alloc::AllocError;
 use std::io::ErrorKind;
 use std::rt::Files;
-use std::thread::Threads;
-use std::{fs, io, thread};
-
-/// The most threads that read files: more of them gained nothing.
-const READERS: usize = 4;
+use std::thread::{Threads, join};
+use std::{fs, io};
 
 /// The fewest files that are read by several threads: of fewer it takes as long to make the threads.
 const FEW: usize = 64;
@@ -29,7 +26,8 @@ pub(crate) fn read_files<R: Files + AllocGlobal>(
     read_others(rt, names, Vec::new(rt.alloc()))
 }
 
-/// The files with their bytes, in the order given, read by so many threads, four at most, if there are many files.
+/// The files with their bytes, in the order given, read by as many threads as there are workers, four at most, if there are
+/// many files.
 pub(crate) fn read_files_by<R: Files + AllocGlobal + Sync, T: Threads + Sync>(
     rt: &R,
     threads: &T,
@@ -40,35 +38,51 @@ pub(crate) fn read_files_by<R: Files + AllocGlobal + Sync, T: Threads + Sync>(
         map (λ file. string_bytes file.0) files.items ≡ map string_bytes names.items) }
     ensures failed { IfErr result (AreUnread (map string_bytes names.items)) }
 {
-    if workers == 1 || names.len() < FEW {
+    if names.len() < FEW {
         return read_files(rt, names);
     }
-    let bytes = bytes_by(rt, threads, &names, workers.min(READERS))?;
+    let bytes = match workers {
+        0 | 1 => return read_files(rt, names),
+        2 | 3 => bytes_by_two(rt, threads, &names)?,
+        _ => bytes_by_four(rt, threads, &names)?,
+    };
     read_others(rt, names, bytes)
 }
 
-/// The bytes of these files, in order, read by so many threads; `None` for a file that can't be read.
-fn bytes_by<R: Files + AllocGlobal + Sync, T: Threads + Sync>(
+/// The bytes of these files, in order, read by four threads; `None` for a file that can't be read.
+fn bytes_by_four<R: Files + AllocGlobal + Sync, T: Threads + Sync>(
     rt: &R,
     threads: &T,
     names: &[String],
-    readers: usize,
-) -> Result<Vec<Option<Vec<u8>>>, AllocError>
-    requires { 0 < readers }
-{
-    let part = names.len().div_ceil(readers).max(1);
-    let parts = thread::map_chunks(
+) -> Result<Vec<Option<Vec<u8>>>, AllocError> {
+    let (front, back) = names.split_at(names.len() / 2);
+    let (front, back) = join(
         threads,
-        rt.alloc(),
-        names,
-        part,
-        &|_, some: &[String]| { bytes_of(rt, some) },
-    )?;
-    let mut all = Vec::new(rt.alloc());
-    for part in parts {
-        let mut bytes = part?;
-        all.append(&mut bytes)?;
-    }
+        || bytes_by_two(rt, threads, front),
+        || bytes_by_two(rt, threads, back),
+    );
+    joined(front?, back?)
+}
+
+/// The bytes of these files, in order, read by two threads; `None` for a file that can't be read.
+fn bytes_by_two<R: Files + AllocGlobal + Sync, T: Threads>(
+    rt: &R,
+    threads: &T,
+    names: &[String],
+) -> Result<Vec<Option<Vec<u8>>>, AllocError> {
+    let (front, back) = names.split_at(names.len() / 2);
+    let (front, back) = join(threads, || bytes_of(rt, front), || bytes_of(rt, back));
+    joined(front?, back?)
+}
+
+/// The first and behind them the others.
+fn joined(
+    front: Vec<Option<Vec<u8>>>,
+    back: Vec<Option<Vec<u8>>>,
+) -> Result<Vec<Option<Vec<u8>>>, AllocError> {
+    let mut all = front;
+    let mut others = back;
+    all.append(&mut others)?;
     Ok(all)
 }
 

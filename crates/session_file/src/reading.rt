@@ -7,8 +7,10 @@ mod feed_fault;
 mod feeding;
 mod files;
 mod items;
+mod opened;
 mod origin;
 mod parts;
+mod places;
 mod records;
 mod results;
 

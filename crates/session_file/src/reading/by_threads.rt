@@ -10,15 +10,19 @@ use crate::fault::FileFault;
 use crate::reading::body_hash::BodyHash;
 use crate::reading::feed_fault::FeedFault;
 use crate::reading::files::{read_after, read_body, with_end};
+use crate::reading::opened::opened_by;
 use crate::reading::origin::check_past;
 use devices::{HashingSink, MemoryFeed};
+use fingerprint::Sealed;
 use sessions::Session;
 use std::alloc::Global;
+use std::sync::Arc;
 use std::thread::{Threads, join};
 
 /// The session over the previous one whose file the bytes are, or the first breach from the left. With two workers or more
-/// another thread computes the digest at the end meanwhile; where none can be made, this thread does so behind the rest.
-pub fn read_after_by<T: Threads>(
+/// another thread computes the digest at the end meanwhile, and with three or more others open the results first. What can't be
+/// done by a thread of its own is done by this one.
+pub fn read_after_by<T: Threads + Sync>(
     threads: &T,
     alloc: Global,
     past: Option<&Session>,
@@ -44,16 +48,17 @@ pub fn read_after_by<T: Threads>(
         return read_after(alloc, past, bytes);
     };
     check_past(past);
-    read_by_two(threads, alloc, past, bytes, body)
+    read_by_two(threads, alloc, past, bytes, body, workers - 1)
 }
 
-/// Reads the file, while another thread hashes all but its last 32 bytes.
-fn read_by_two<T: Threads>(
+/// Reads the file by so many workers, while another thread hashes all but its last 32 bytes.
+fn read_by_two<T: Threads + Sync>(
     threads: &T,
     alloc: Global,
     past: Option<&Session>,
     bytes: &[u8],
     body: &[u8],
+    others: usize,
 ) -> Result<Session, FileFault>
     requires past { IfSome (option_copied past) IsSession }
     requires body { body.now ≡ take (length bytes.now - 32) bytes.now }
@@ -65,7 +70,7 @@ fn read_by_two<T: Threads>(
     let reading = move || -> Result<(Session, usize), FileFault>
         requires { IfSome (option_copied past) IsSession }
         ensures { ReadsBody (option_copied past.entry) bytes.entry.now result }
-    { read_unhashed(alloc, past, bytes) };
+    { read_opened(threads, alloc, past, bytes, others) };
     let (hash, read) = join(threads, hashing, reading);
     match read {
         Ok((session, left)) => end_of(session, bytes, left, hash),
@@ -73,17 +78,39 @@ fn read_by_two<T: Threads>(
     }
 }
 
+/// Reads all but the digest at the end, once so many threads have opened the results if there are some. Answers how many
+/// bytes are left, too.
+fn read_opened<T: Threads + Sync>(
+    threads: &T,
+    alloc: Global,
+    past: Option<&Session>,
+    bytes: &[u8],
+    workers: usize,
+) -> Result<(Session, usize), FileFault>
+    requires { IfSome (option_copied past) IsSession }
+    ensures { ReadsBody (option_copied past.entry) bytes.now result }
+{
+    if workers < 2 {
+        return read_unhashed(alloc, past, &[], bytes);
+    }
+    match opened_by(threads, alloc, bytes, workers) {
+        Ok(opened) => read_unhashed(alloc, past, &opened, bytes),
+        Err(_) => Err(FileFault::OutOfMemory),
+    }
+}
+
 /// Reads all but the digest at the end, and hashes nothing. Answers how many bytes are left, too.
 fn read_unhashed(
     alloc: Global,
     past: Option<&Session>,
+    opened: &[Option<Arc<Sealed>>],
     bytes: &[u8],
 ) -> Result<(Session, usize), FileFault>
     requires { IfSome (option_copied past) IsSession }
     ensures { ReadsBody (option_copied past.entry) bytes.now result }
 {
     let mut feed = MemoryFeed::new(bytes);
-    match read_body(alloc, past, &mut feed, &mut BodyHash::elsewhere()) {
+    match read_body(alloc, past, opened, &mut feed, &mut BodyHash::elsewhere()) {
         Ok(session) => Ok((session, feed.rest().len())),
         Err(FeedFault::Memory) => Err(FileFault::OutOfMemory),
         Err(FeedFault::Device) => unreachable!(),

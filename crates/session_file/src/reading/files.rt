@@ -18,8 +18,10 @@ use crate::reading::records::read_records;
 use crate::writing::start_of;
 use byteorder::{BigEndian, ByteOrder};
 use devices::{Feed, HashingSink, MemoryFeed};
+use fingerprint::Sealed;
 use sessions::{Session, Terms};
 use std::alloc::Global;
+use std::sync::Arc;
 
 /// What each session's file begins with.
 const MAGIC: [u8; 4] = *b"MJRG";
@@ -157,7 +159,7 @@ fn read_session<F: Feed>(
     ensures counted { CountsFeedFault result (F.failed feed.old) (F.failed feed.new) }
 {
     let mut hash = BodyHash::here();
-    let session = read_body(alloc, past, feed, &mut hash)?;
+    let session = read_body(alloc, past, &[], feed, &mut hash)?;
     let Some(body) = hash.into_sink() else {
         unreachable!();
     };
@@ -168,10 +170,11 @@ fn read_session<F: Feed>(
     }
 }
 
-/// Reads all but the digest at the end.
+/// Reads all but the digest at the end, where threads may have opened results of records.
 pub(crate) fn read_body<F: Feed>(
     alloc: Global,
     past: Option<&Session>,
+    opened: &[Option<Arc<Sealed>>],
     feed: &mut F,
     hash: &mut BodyHash,
 ) -> Result<Session, FeedFault>
@@ -181,7 +184,7 @@ pub(crate) fn read_body<F: Feed>(
     ensures counted { CountsFeedFault result (F.failed feed.old) (F.failed feed.new) }
 {
     let head = read_head(feed, hash)?;
-    let mut origin = Origin::new(past, head.terms.form);
+    let mut origin = Origin::new(past, head.terms.form, opened);
     let records = read_records(alloc, feed, hash, &mut origin, head.count)?;
     Ok(Session::of_as(head.terms, head.number, head.link, records))
 }

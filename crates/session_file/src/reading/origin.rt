@@ -12,12 +12,14 @@ use sessions::{Finder, Form, Mark, Session};
 use std::marker::Model;
 use std::sync::Arc;
 
-/// What the records of a file are read over: the previous session, where there is one, and the form of the file.
+/// What the records of a file are read over: the previous session, where there is one, and the form of the file. Results
+/// that other threads opened are at hand, too, by the records' indices; they may be any.
 #[derive(Drop)]
 pub(crate) struct Origin<'a> {
     past: Option<&'a Session>,
     form: Form,
     finder: Finder,
+    opened: &'a [Option<Arc<Sealed>>],
 }
 
 impl<'a> Model for Origin<'a> {
@@ -35,13 +37,18 @@ impl<'a> Model for Origin<'a> {
 
 impl<'a> Origin<'a> {
     /// The previous session and a form.
-    pub(crate) fn new(past: Option<&'a Session>, form: Form) -> Self
+    pub(crate) fn new(
+        past: Option<&'a Session>,
+        form: Form,
+        opened: &'a [Option<Arc<Sealed>>],
+    ) -> Self
         ensures { result ≡ record { past = option_copied past.entry; form = form } }
     {
         Origin {
             past,
             form,
             finder: Finder::new(),
+            opened,
         }
     }
 
@@ -58,6 +65,11 @@ impl<'a> Origin<'a> {
             },
             None => None,
         }
+    }
+
+    /// The result that another thread opened for the record at an index, if one did.
+    pub(crate) fn opened_at(&self, index: usize) -> Option<&'a Arc<Sealed>> {
+        self.opened.get(index)?.as_ref()
     }
 
     /// Whether a record of this mark ends with the fingerprint of its result.

@@ -13,7 +13,7 @@ use crate::reading::edges::read_edges;
 use crate::reading::feed_fault::FeedFault;
 use crate::reading::items::{Item, read_item};
 use crate::reading::origin::Origin;
-use crate::reading::results::{read_result, take_result};
+use crate::reading::results::{Known, read_result, take_result};
 use devices::Feed;
 use fingerprint::Sealed;
 use item_ids::Key;
@@ -175,10 +175,14 @@ fn read_told<F: Feed>(
     ensures same { origin.new ≡ origin.old }
     ensures counted { CountsFeedFault result (F.failed feed.old) (F.failed feed.new) }
 {
-    let had = origin.result_of(&item.key);
+    let past = origin.result_of(&item.key);
     if origin.ends_with_print(item.mark) {
-        take_result(feed, hash, had, index)
+        take_result(feed, hash, past, index)
     } else {
-        read_result(alloc, feed, hash, had, index, item.key.kind())
+        let known = Known {
+            past,
+            opened: origin.opened_at(index),
+        };
+        read_result(alloc, feed, hash, known, index, item.key.kind())
     }
 }

@@ -1,5 +1,5 @@
 //! Results of records.
-ghost use Rattle.std.specs.Prelude.{◌≡◌, Some, IfOk, IsTrue, option_map};
+ghost use Rattle.std.specs.Prelude.{◌≡◌, Some, IfOk, IfSome, IsTrue, option_map};
 ghost use Rattle.std.specs.Arc.{arc_value};
 ghost use Rattle.std.specs.Option.{option_copied};
 ghost use Rattle.result_bytes.specs.Values.{decoding};
@@ -57,13 +57,21 @@ fn with_print(
     }
 }
 
-/// Reads the result of the record at an index, which is of a kind. Where the previous session has the same result of its
-/// key, that one is shared.
+/// Results that a record's may be.
+#[derive(Clone, Copy)]
+pub(crate) struct Known<'a> {
+    /// The one that the previous session has of the key.
+    pub(crate) past: Option<&'a Arc<Sealed>>,
+    /// The one that another thread opened.
+    pub(crate) opened: Option<&'a Arc<Sealed>>,
+}
+
+/// Reads the result of the record at an index, which is of a kind. Where a known one is the same, that is shared.
 pub(crate) fn read_result<F: Feed>(
     alloc: Global,
     feed: &mut F,
     hash: &mut BodyHash,
-    had: Option<&Arc<Sealed>>,
+    known: Known<'_>,
     index: usize,
     kind: Kind,
 ) -> Result<Arc<Sealed>, FeedFault>
@@ -74,7 +82,7 @@ pub(crate) fn read_result<F: Feed>(
     let print = thirty_two(feed, hash)?;
     let count = eight(feed, hash)?;
     let text = bytes(alloc, feed, hash, count)?;
-    match share_or_open(alloc, had, kind, print, text) {
+    match share_or_open(alloc, known, kind, print, text) {
         Ok(Some(sealed)) => Ok(sealed),
         Ok(None) => Err(FeedFault::Breach(FileFault::Result(index))),
         Err(_) => Err(FeedFault::Memory),
@@ -84,7 +92,7 @@ pub(crate) fn read_result<F: Feed>(
 /// The value of a kind that the text spells, where it has the fingerprint.
 fn share_or_open(
     alloc: Global,
-    had: Option<&Arc<Sealed>>,
+    known: Known<'_>,
     kind: Kind,
     print: [u8; 32],
     text: Vec<u8>,
@@ -92,12 +100,29 @@ fn share_or_open(
     ensures { IfOk result (λ found. option_map (λ sealed. arc_value sealed) found
         ≡ value_with_print print (decoding kind text.items)) }
 {
-    if let Some(had) = had {
-        if is_spelled(had, kind, &print, &text) {
-            return Ok(Some(Arc::try_clone(had)?));
-        }
+    if let Some(same) = shared(known.past, kind, &print, &text)? {
+        return Ok(Some(same));
+    }
+    if let Some(same) = shared(known.opened, kind, &print, &text)? {
+        return Ok(Some(same));
     }
     open(alloc, kind, print, text)
+}
+
+/// One more owner of a result, if the text spells it.
+fn shared(
+    sealed: Option<&Arc<Sealed>>,
+    kind: Kind,
+    print: &[u8; 32],
+    text: &[u8],
+) -> Result<Option<Arc<Sealed>>, AllocError>
+    ensures { IfOk result (λ found. IfSome found (λ sealed.
+        value_with_print print.now (decoding kind text.now) ≡ Some (arc_value sealed))) }
+{
+    match sealed {
+        Some(sealed) if is_spelled(sealed, kind, print, text) => Ok(Some(Arc::try_clone(sealed)?)),
+        _ => Ok(None),
+    }
 }
 
 /// Whether the text spells this result of a kind, and the fingerprint is its own.
@@ -115,7 +140,7 @@ fn is_spelled(sealed: &Sealed, kind: Kind, print: &[u8; 32], text: &[u8]) -> boo
 }
 
 /// The value of a kind that the text spells, where it has the fingerprint.
-fn open(
+pub(crate) fn open(
     alloc: Global,
     kind: Kind,
     print: [u8; 32],
