@@ -153,8 +153,8 @@ table_named {A} name own ks =
     let all : List (Name × (Name × A)) = all_along name own ks in
     let table : List (Name × (Name × A)) = names.entries (names.from_entries {R = by_bytes} all) in
     all_from_each (λ (e : Name × (Name × A)). e.0 ≡ name e.1.1) table (λ e h.
-        let at = found e.0 e.1 table (firsts_ascend all) h in
-        each_from_all (λ (f : Name × (Name × A)). f.0 ≡ name f.1.1) all (along_named name own ks) e (stands e.0 e.1 all (sym (under_first e.0 all) ∙ at)))
+    let at = found e.0 e.1 table (firsts_ascend all) h in
+    each_from_all (λ (f : Name × (Name × A)). f.0 ≡ name f.1.1) all (along_named name own ks) e (stands e.0 e.1 all (sym (under_first e.0 all) ∙ at)))
 
 -- the table of what these classes declare
 pub is_table : {A : Type 0} (name : A → Name) (own : ClassDecl → List A) (ks : List ClassDecl) (IsMember : Name → A → Type 0)
