@@ -198,7 +198,8 @@ Exit status:
 pub(crate) const CACHE: &str = "The folder of the cache; it is made if it is missing";
 
 /// What the N of `--jobs` is.
-pub(crate) const JOBS: &str = "How many workers run the queries, 1 to 64 [default: 1]";
+pub(crate) const JOBS: &str =
+    "How many workers run the queries, 1 to 64; no more than files have changed [default: 1]";
 
 /// What the N of `--profile` is.
 pub(crate) const PROFILE: &str = "The profile of the language, 1 or 2 [default: 1]";
