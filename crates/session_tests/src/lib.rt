@@ -10,4 +10,6 @@ mod forms;
 #[cfg(test)]
 mod reading;
 #[cfg(test)]
+mod threads;
+#[cfg(test)]
 mod writing;
