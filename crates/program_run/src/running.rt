@@ -32,7 +32,7 @@ use std::thread::Threads;
 /// Does what the words of the command line ask for; the first is the program's name. Writes standard error, then
 /// standard output, and gives the exit status. Only a check starts threads, and only an audit writes to standard error
 /// before it is done, if that is asked for.
-pub fn run<R: Files + AllocGlobal + Sync, T: Threads + Wait + Sync, W: Write, E: Write>(
+pub fn run<R: Files + AllocGlobal, T: Threads + Wait + Sync, W: Write, E: Write>(
     rt: &R,
     threads: &T,
     list: Vec<String>,
@@ -65,7 +65,7 @@ pub fn run<R: Files + AllocGlobal + Sync, T: Threads + Wait + Sync, W: Write, E:
 
 // The texts and the end of a run with these words.
 #[tactic(auto, using(crate::proofs::Failures::reports_refusal, crate::proofs::Failures::reports_failure))]
-fn report_of<R: Files + AllocGlobal + Sync, T: Threads + Wait + Sync, E: Write>(
+fn report_of<R: Files + AllocGlobal, T: Threads + Wait + Sync, E: Write>(
     rt: &R,
     threads: &T,
     list: Vec<String>,
@@ -96,7 +96,7 @@ fn report_of<R: Files + AllocGlobal + Sync, T: Threads + Wait + Sync, E: Write>(
 
 // What the words ask for.
 #[tactic(auto, using(crate::proofs::Failures::has_answer, crate::proofs::Failures::refused_stops))]
-fn perform<R: Files + AllocGlobal + Sync, T: Threads + Wait + Sync, E: Write>(
+fn perform<R: Files + AllocGlobal, T: Threads + Wait + Sync, E: Write>(
     rt: &R,
     threads: &T,
     list: Vec<String>,

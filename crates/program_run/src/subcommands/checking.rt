@@ -7,7 +7,7 @@ ghost use Rattle.program_run.specs.Checks.{ChecksAsked, ChecksTo, TellsSession};
 ghost use Rattle.program_run.specs.Failures.{CheckFails};
 
 use crate::failure::Failure;
-use crate::files::read_files_by;
+use crate::files::read_files;
 use crate::report::{Report, Status};
 use crate::terms::{form_of, profile_of};
 use cached_check::{Beginning, answer_in, begin, next_session, summary_text};
@@ -35,7 +35,7 @@ struct CheckOptions {
 
 /// The report on a check of these files over the cache, by the session of these terms that follows the last one there,
 /// whose workers are threads. All of it is made before the session's file is written.
-pub(crate) fn check<R: Files + AllocGlobal + Sync, T: Threads + Wait + Sync>(
+pub(crate) fn check<R: Files + AllocGlobal, T: Threads + Wait + Sync>(
     rt: &R,
     threads: &T,
     asked: CheckWords,
@@ -53,7 +53,7 @@ pub(crate) fn check<R: Files + AllocGlobal + Sync, T: Threads + Wait + Sync>(
         messages,
         files,
     } = asked;
-    let project = Project::new(rt.alloc(), read_files_by(rt, threads, files, jobs)?)?;
+    let project = Project::new(rt.alloc(), read_files(rt, files)?)?;
     let terms = Terms {
         profile: profile_of(profile),
         form: form_of(form),

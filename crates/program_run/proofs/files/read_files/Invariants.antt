@@ -1,6 +1,6 @@
 use Rattle.std.proofs.Common.{◌≡◌, ◌++◌, map, string_bytes}
 use Rattle.std.specs.Vec.Iter.{into_iter_items}
-use Rattle.program_run.proofs.files.read_others.Given as goal
+use Rattle.program_run.proofs.files.read_files.Given as goal
 
 -- the files of the names so far were read, and the others are left
 abbrev pub invariant-loop-name : goal.invariant-loop-name
