@@ -7,8 +7,10 @@ use Rattle.std.specs.declared.cmp.Ordering.TheVariants.{Less, Equal, Greater}
 use Rattle.mj_answer.specs.declared.diagnostic.Diagnostic.{Diagnostic}
 use Rattle.mj_answer.specs.contracts.diagnostic.DiagnosticOrd.TheImpl.{cmp-value}
 use Rattle.mj_answer.specs.contracts.diagnostic.DiagnosticOrd.TheImpl.Laws.{total-law, matches_eq-law}
-use Rattle.mj_answer.specs.Order.{Before, IsAscendingBy, IsStrictTotalOrder}
-use Rattle.mj_answer.proofs.Orders.{names, faults}
+use Rattle.ordered_names.specs.Order.{IsAscendingBy, IsStrictTotalOrder}
+use Rattle.mj_answer.specs.Order.{Before}
+use Rattle.ordered_names.proofs.Orders.{names}
+use Rattle.mj_answer.proofs.Orders.{faults}
 use Rattle.mj_answer.proofs.Compared.{fault_less, fault_equal}
 use Rattle.byte_readers.specs.Orders.{is_after}
 use Rattle.byte_readers.specs.Lawful.{Lawful, Admitted}

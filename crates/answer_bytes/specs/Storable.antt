@@ -7,7 +7,8 @@ use Rattle.mj_tree.specs.declared.place.Place.TheVariants.{Project, File, ClassO
 use Rattle.mj_answer.specs.declared.diagnostic.Diagnostic.{Diagnostic}
 use Rattle.mj_answer.specs.declared.table.FieldRow.{FieldRow}
 use Rattle.mj_answer.specs.AnswerValues.{MethodRowValue, ClassTableValue, ClassAnswerValue, AnswerValue}
-use Rattle.mj_answer.specs.Order.{NameBefore, Before, IsAscendingBy, IsClassInOrder}
+use Rattle.ordered_names.specs.Order.{NameBefore, IsAscendingBy}
+use Rattle.mj_answer.specs.Order.{Before, IsClassInOrder}
 use Rattle.byte_readers.specs.Names.{IsName}
 use Rattle.tree_spelling.specs.Storable.{TyFits}
 

@@ -1,7 +1,8 @@
 //! Tables, diagnostics and the whole answer, each in its order.
 ghost use Rattle.std.specs.Prelude.{◌≡◌, ◌++◌, List, OnOk};
 ghost use Rattle.std.specs.List.{AllByRecursion};
-ghost use Rattle.mj_answer.specs.Order.{IsAscending, IsAscendingByName, IsTableInOrder};
+ghost use Rattle.ordered_names.specs.Order.{IsAscendingByName};
+ghost use Rattle.mj_answer.specs.Order.{IsAscending, IsTableInOrder};
 ghost use Rattle.byte_readers.specs.Reading.{Decodes};
 ghost use Rattle.byte_readers.specs.Spelling.{list};
 ghost use Rattle.answer_bytes.specs.Canon.{table, class_fault, answer};

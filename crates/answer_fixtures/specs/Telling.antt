@@ -8,7 +8,7 @@ use Rattle.item_ids.specs.declared.key.Key.{Key}
 use Rattle.item_ids.specs.Kinds.{FitNames}
 use Rattle.item_ids.specs.Keys.{kind_of as kind_of_key, class_of, member_of, key_cmp}
 use Rattle.mj_answer.specs.Text.{text_of}
-use Rattle.mj_project.specs.Projects.{SourceFile}
+use Rattle.named_files.specs.Projects.{SourceFile}
 use Rattle.mj_tree.specs.Trees.{File}
 use Rattle.tree_bytes.specs.NamedBodies.{body_named}
 use Rattle.result_bytes.specs.declared.value.Value.{Value}

@@ -8,7 +8,7 @@ ghost use Rattle.answer_fixtures.specs.Telling.{name_told, IsKeyOf, FitTold, Are
 
 use crate::unfit::Unfit;
 use item_ids::{Key, Kind, keys_in_order};
-use mj_lexer::Name;
+use ordered_names::Name;
 use std::alloc::Global;
 
 /// The kind of a key, its class or file, and its method, each empty where there is none.

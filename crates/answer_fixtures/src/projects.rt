@@ -1,10 +1,10 @@
 //! Projects of one file.
 ghost use Rattle.std.specs.Prelude.{◌≡◌, [], ◌∷◌, codes, IfOk};
-ghost use Rattle.mj_project.specs.Projects.{sources_view};
+ghost use Rattle.named_files.specs.Projects.{sources_view};
 ghost use Rattle.answer_fixtures.specs.Telling.{one_file};
 
 use crate::unfit::Unfit;
-use mj_project::Project;
+use named_files::Project;
 use std::alloc::{AllocError, Global};
 
 /// The name of the file.

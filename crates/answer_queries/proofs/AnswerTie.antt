@@ -8,7 +8,7 @@ use Rattle.mj_tree.specs.Trees.{Name}
 use Rattle.mj_answer.specs.declared.diagnostic.Diagnostic.{Diagnostic}
 use Rattle.mj_answer.specs.AnswerValues.{ClassAnswerValue, AnswerValue}
 use Rattle.mj_members.specs.Declarations.{ClassDecl}
-use Rattle.mj_project.specs.Projects.{names_of, IsProject}
+use Rattle.named_files.specs.Projects.{names_of, IsProject}
 use Rattle.profiles.specs.declared.profile.Profile.{Profile}
 use Rattle.mj_rules.specs.Sentences.{classes_in}
 use Rattle.mj_rules.specs.Answering as answering

@@ -21,8 +21,8 @@ use Rattle.mj_classes.specs.Chains.{EndOf, Top, Undeclared, Repeated, Extends, I
 use Rattle.mj_classes.specs.Members.{own_method}
 use Rattle.mj_classes.proofs.Climb.{decl_name, links_declared, all_declared, chain_of_is, has_chain}
 use Rattle.mj_classes.proofs.Distinct.{contains_in}
-use Rattle.mj_project.proofs.Listed.{place_of, at_map}
-use Rattle.mj_project.specs.Repeats.{is_in, repeats_behind, repeats}
+use Rattle.named_files.proofs.Listed.{place_of, at_map}
+use Rattle.named_files.specs.Repeats.{is_in, repeats_behind, repeats}
 use Rattle.mj_phrases.specs.Types.{is_same}
 use Rattle.mj_phrases.specs.Inquiries.{Sig, World, Concludes, AsksDescent, conclusion}
 use Rattle.mj_phrases.specs.Table.{is_accepted}

@@ -6,7 +6,7 @@ use Rattle.mj_tree.specs.declared.place.Place.TheVariants as places
 use Rattle.mj_answer.specs.declared.code.Code.{Code}
 use Rattle.mj_answer.specs.declared.code.Code.TheVariants.{E203, E205, E206}
 use Rattle.mj_answer.specs.declared.diagnostic.Diagnostic.{Diagnostic}
-use Rattle.mj_project.specs.Repeats.{repeats}
+use Rattle.named_files.specs.Repeats.{repeats}
 use Rattle.mj_rules.specs.FaultLists.{when_fault, each_numbered}
 use Rattle.answer_bytes.specs.Storable.{IsClassPlace, AreClassFaults}
 use Rattle.result_bytes.specs.declared.parts.ChainEnd.{ChainEnd}

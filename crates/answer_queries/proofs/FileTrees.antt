@@ -1,7 +1,7 @@
 -- The trees of a project's files by their names.
 use Rattle.std.proofs.Common.{◌≡◌, ℕ, suc, ◌+◌, List, [], ◌∷◌, map, slice_get, Option, Some, refl, sym, ap, ap₂, ◌∙◌, arith}
 use Rattle.mj_tree.specs.Trees.{Name, File}
-use Rattle.mj_project.specs.Projects.{SourceFile, names_of, IsProject}
+use Rattle.named_files.specs.Projects.{SourceFile, names_of, IsProject}
 use Rattle.mj_rules.specs.Sentences.{file_of, trees_of}
 use Rattle.recorder.specs.Projects.{Project}
 use Rattle.query_rules.specs.Items.{tree_at}

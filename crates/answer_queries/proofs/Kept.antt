@@ -3,7 +3,8 @@ use Rattle.std.proofs.Common.{◌≡◌, List, map, Some, None, sym, ap, ap₂, 
 use Rattle.mj_tree.specs.Trees.{Name}
 use Rattle.mj_answer.specs.declared.diagnostic.Diagnostic.{Diagnostic}
 use Rattle.mj_answer.specs.AnswerValues.{ClassTableValue, ClassAnswerValue}
-use Rattle.mj_answer.specs.Order.{NameBefore, IsAscending, IsAscendingBy, IsAscendingByName, IsTableInOrder}
+use Rattle.ordered_names.specs.Order.{NameBefore, IsAscendingBy, IsAscendingByName}
+use Rattle.mj_answer.specs.Order.{IsAscending, IsTableInOrder}
 use Rattle.item_ids.proofs.Lists.{all_map}
 use Rattle.answer_bytes.specs.Storable.{IsClassPlace, ClassFaultFits, ClassFaultsFit, AreClassFaults, IsClassStorable}
 use Rattle.result_bytes.specs.Parts.{faults_in}

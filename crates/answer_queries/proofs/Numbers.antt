@@ -7,7 +7,7 @@ use Rattle.mj_parser.specs.Declarations.{class_size}
 use Rattle.mj_members.specs.Declarations.{ClassDecl}
 use Rattle.mj_classes.specs.Declarations.{number_classes, main_first, classes_of, declared_from}
 use Rattle.mj_classes.proofs.Tables.{all_append}
-use Rattle.mj_project.specs.Projects.{SourceFile}
+use Rattle.named_files.specs.Projects.{SourceFile}
 use Rattle.mj_rules.specs.Sentences.{file_of, trees_of, classes_in}
 use Rattle.mj_rules.proofs.LowerLaws.{sentence_law}
 use Rattle.storable_trees.proofs.TextTokens.{tokens_few}

@@ -7,8 +7,8 @@ use Rattle.mj_answer.specs.declared.code.Code.TheVariants.{E102, E104}
 use Rattle.mj_answer.specs.declared.diagnostic.Diagnostic.{Diagnostic}
 use Rattle.mj_members.specs.Declarations.{ClassDecl}
 use Rattle.mj_classes.specs.Declarations.{declarations}
-use Rattle.mj_project.specs.Projects.{SourceFile}
-use Rattle.mj_project.specs.Repeats.{repeats}
+use Rattle.named_files.specs.Projects.{SourceFile}
+use Rattle.named_files.specs.Repeats.{repeats}
 use Rattle.mj_rules.specs.Sentences.{file_of, classes_in}
 use Rattle.mj_rules.specs.FaultLists as rules
 use Rattle.mj_rules.specs.FaultLists.{fault, when_fault, each_numbered, has_main, file_faults}

@@ -7,7 +7,7 @@ use Rattle.mj_answer.specs.declared.code.Code.{Code}
 use Rattle.mj_answer.specs.declared.code.Code.TheVariants.{E102, E103}
 use Rattle.mj_answer.specs.declared.diagnostic.Diagnostic.{Diagnostic}
 use Rattle.mj_classes.proofs.Tables.{all_append}
-use Rattle.mj_project.specs.Repeats.{repeats}
+use Rattle.named_files.specs.Repeats.{repeats}
 use Rattle.mj_rules.specs.FaultLists.{when_fault, each_numbered, has_main, file_faults}
 use Rattle.mj_rules.proofs.Composing.{SameFaults}
 use Rattle.item_ids.proofs.Lists.{all_from}

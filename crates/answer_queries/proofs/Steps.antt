@@ -9,7 +9,7 @@ use Rattle.mj_answer.specs.declared.diagnostic.Diagnostic.{Diagnostic}
 use Rattle.mj_tree.specs.Trees.{Name}
 use Rattle.mj_tree.proofs.Positions.{read_at}
 use Rattle.mj_rules.specs.FaultLists.{fault, has_main, file_faults}
-use Rattle.mj_project.proofs.Listed.{map_at}
+use Rattle.named_files.proofs.Listed.{map_at}
 use Rattle.mj_rules.proofs.Steps.{drop_at, or_false}
 use Rattle.body_query.specs.Bounds.{bound}
 use Rattle.answer_queries.specs.Trees.{NamedTree, named_tree, named_trees}

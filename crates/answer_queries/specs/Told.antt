@@ -5,7 +5,7 @@ use Rattle.mj_tree.specs.Trees.{Name}
 use Rattle.mj_tree.specs.declared.place.Place.TheVariants as places
 use Rattle.mj_answer.specs.declared.code.Code.TheVariants.{E201, E202, E203, E204, E205, E206}
 use Rattle.mj_answer.specs.declared.diagnostic.Diagnostic.{Diagnostic}
-use Rattle.mj_project.specs.Repeats.{repeats}
+use Rattle.named_files.specs.Repeats.{repeats}
 use Rattle.mj_rules.specs.FaultLists.{fault, when_fault, each_numbered}
 use Rattle.result_bytes.specs.declared.parts.ChainEnd.{ChainEnd}
 use Rattle.result_bytes.specs.declared.parts.ChainEnd.TheVariants as ends

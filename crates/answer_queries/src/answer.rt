@@ -1,7 +1,7 @@
 //! The query of the answer for the whole project.
 ghost use Rattle.std.specs.Prelude.{◌≡◌, IfOk, IfErr};
 ghost use Rattle.std.specs.List.{AllByRecursion};
-ghost use Rattle.mj_answer.specs.Order.{IsAscendingByName};
+ghost use Rattle.ordered_names.specs.Order.{IsAscendingByName};
 ghost use Rattle.answer_bytes.specs.Storable.{AreProjectFaults, IsClassStorable};
 ghost use Rattle.recorder.specs.Programs.{Goes, GivesUp};
 ghost use Rattle.answer_queries.specs.Answer.{answer, classes_steps, answer_steps};

@@ -11,7 +11,7 @@ use crate::overrides::{ask_overrides, overridden_class};
 use crate::told::faults_of;
 use answer_bytes::Faults;
 use item_ids::Key;
-use mj_lexer::Name;
+use ordered_names::Name;
 use profiles::Profile;
 use recorder::{Reader, Recorder, RunFault, read};
 use result_bytes::{Header, Supers, Value};

@@ -9,7 +9,7 @@ ghost use Rattle.answer_queries.specs.Answer.{class_answer as class_told, class_
 use fingerprint::Sealed;
 use item_ids::Key;
 use mj_answer::{ClassAnswer, ClassTable, copy_faults};
-use mj_lexer::Name;
+use ordered_names::Name;
 use recorder::{Reader, Recorder, RunFault, read};
 use result_bytes::{IndexRow, Value};
 use std::alloc::{AllocError, Global};

@@ -1,7 +1,7 @@
 //! The diagnostics of a project itself, by the trees of its files.
 ghost use Rattle.std.specs.Prelude.{◌≡◌, ◌++◌, ◌≤◌, [], false, is_some, option_copied, slice_get, IfOk, OnOk};
 ghost use Rattle.mj_classes.specs.Declarations.{classes_of, number_classes};
-ghost use Rattle.mj_project.specs.Repeats.{repeats as repeated_names};
+ghost use Rattle.named_files.specs.Repeats.{repeats as repeated_names};
 ghost use Rattle.mj_rules.specs.FaultLists.{has_main as has_main_in, file_faults};
 ghost use Rattle.answer_bytes.specs.Storable.{AreProjectFaults};
 ghost use Rattle.answer_queries.specs.Trees.{named_tree, named_trees};
@@ -10,9 +10,9 @@ ghost use Rattle.answer_queries.specs.ProjectFaults.{any_main, files_faults, nam
 use crate::trees::ParsedFile;
 use body_query::note_fault;
 use mj_answer::{Code, Diagnostic};
-use mj_lexer::Name;
-use mj_project::repeats;
 use mj_tree::Place;
+use named_files::repeats;
+use ordered_names::Name;
 use std::alloc::{AllocError, Global};
 use tree_bytes::Tree;
 

@@ -1,6 +1,6 @@
 //! The diagnostics of a class's declarations that follow from answers.
 ghost use Rattle.std.specs.Prelude.{◌≡◌, ◌++◌, IfOk, OnOk, option_copied};
-ghost use Rattle.mj_project.specs.Repeats.{repeats as repeats_of};
+ghost use Rattle.named_files.specs.Repeats.{repeats as repeats_of};
 ghost use Rattle.mj_rules.specs.FaultLists.{each_numbered};
 ghost use Rattle.query_rules.specs.Items.{fault_set};
 ghost use Rattle.answer_queries.specs.Told.{superclass_told, cycle_told, chain_told, field_told, method_told, header_field_faults, header_method_faults, faults_told};
@@ -8,10 +8,10 @@ ghost use Rattle.answer_queries.specs.Told.{superclass_told, cycle_told, chain_t
 use answer_bytes::Faults;
 use body_query::{class_fault_set, note_fault};
 use mj_answer::{Code, Diagnostic};
-use mj_lexer::Name;
-use mj_project::repeats;
 use mj_rules::repeated_fields;
 use mj_tree::Place;
+use named_files::repeats;
+use ordered_names::Name;
 use result_bytes::{ChainEnd, Header, Supers};
 use std::alloc::{AllocError, Global};
 

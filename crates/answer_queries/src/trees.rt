@@ -7,7 +7,7 @@ ghost use Rattle.answer_queries.specs.Trees.{named_tree, named_trees, tree_step}
 
 use fingerprint::Sealed;
 use item_ids::Key;
-use mj_lexer::Name;
+use ordered_names::Name;
 use recorder::{Reader, Recorder, RunFault, read};
 use std::alloc::{AllocError, Global};
 use std::sync::Arc;

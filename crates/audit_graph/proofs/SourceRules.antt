@@ -12,8 +12,8 @@ use Rattle.item_ids.specs.Keys.{kind_of}
 use Rattle.result_bytes.specs.declared.value.Value.{Value}
 use Rattle.result_bytes.specs.declared.value.Value.TheVariants as values
 use Rattle.result_bytes.specs.Storable.{AreDistinctNames, FileNamesFit}
-use Rattle.mj_project.specs.Projects.{SourceFile, names_of, IsFileName, IsProject}
-use Rattle.mj_project.proofs.Listed.{place_of}
+use Rattle.named_files.specs.Projects.{SourceFile, names_of, IsFileName, IsProject}
+use Rattle.named_files.proofs.Listed.{place_of}
 use Rattle.recorder.specs.Projects.{Project, bytes_at}
 use Rattle.sessions.specs.Sessions.{Entry, SessionValue, IsSession, entries, entry_at}
 use Rattle.graph_rules.specs.Pasts.{Past}

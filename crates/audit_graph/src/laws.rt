@@ -1,7 +1,7 @@
 //! Laws of sessions that were checked.
 ghost use Rattle.std.specs.Prelude.{◌≡◌, ◌↔◌, ℕ, Bool, true, Option, Some, None, Contains, slice_get};
 ghost use Rattle.item_ids.specs.declared.key.Key.{Key};
-ghost use Rattle.mj_project.specs.Projects.{IsProject};
+ghost use Rattle.named_files.specs.Projects.{IsProject};
 ghost use Rattle.recorder.specs.Projects.{Project};
 ghost use Rattle.recorder.specs.Backed.{Queries, AreLawful};
 ghost use Rattle.sessions.specs.declared.mark.Mark.TheVariants.{Executed, Green};

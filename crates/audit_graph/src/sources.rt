@@ -13,7 +13,7 @@ ghost use Rattle.audit_graph.specs.Sources.{HasFiles, HasBytes, HasSources, IsAd
 ghost use Rattle.audit_graph.specs.Steps.{SourcesGive};
 
 use item_ids::{Key, Kind};
-use mj_lexer::Name;
+use ordered_names::Name;
 use result_bytes::Value;
 use sessions::Session;
 use std::alloc::{AllocError, Global};

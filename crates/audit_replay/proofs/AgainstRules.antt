@@ -7,7 +7,7 @@ use Rattle.std.proofs.lemmas.Slice.Eq.{bytes_eq-Decides}
 use Rattle.item_ids.specs.declared.key.Key.TheVariants.{Source}
 use Rattle.result_bytes.specs.declared.value.Value.TheVariants as values
 use Rattle.result_bytes.specs.Storable.{AreDistinctNames}
-use Rattle.mj_project.specs.Projects.{SourceFile, source_view, sources_view, names_of, IsProject}
+use Rattle.named_files.specs.Projects.{SourceFile, source_view, sources_view, names_of, IsProject}
 use Rattle.recorder.specs.Projects.{Project, bytes_at}
 use Rattle.graph_rules.specs.Pasts.{Past}
 use Rattle.graph_rules.specs.Next.{AreSources}

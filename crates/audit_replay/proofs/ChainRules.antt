@@ -2,7 +2,7 @@
 use Rattle.std.proofs.Common.{◌≡◌, ℕ, ◌+◌, true, List, [], ◌∷◌, Option, Some, None, refl, subst}
 use Rattle.std.specs.Prelude.{Contains, IfSome}
 use Rattle.std.specs.List.{AllByRecursion}
-use Rattle.mj_project.specs.Projects.{IsProject}
+use Rattle.named_files.specs.Projects.{IsProject}
 use Rattle.item_ids.specs.declared.key.Key.{Key}
 use Rattle.recorder.specs.Projects.{Project}
 use Rattle.recorder.specs.Backed.{Queries, AreLawful}

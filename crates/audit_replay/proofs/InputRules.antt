@@ -12,7 +12,7 @@ use Rattle.item_ids.specs.declared.key.Key.{Key}
 use Rattle.item_ids.specs.declared.key.Key.TheVariants.{Files, Source}
 use Rattle.result_bytes.specs.declared.value.Value.{Value}
 use Rattle.result_bytes.specs.declared.value.Value.TheVariants as values
-use Rattle.mj_project.specs.Projects.{SourceFile, source_view, sources_view, names_of, IsProject}
+use Rattle.named_files.specs.Projects.{SourceFile, source_view, sources_view, names_of, IsProject}
 use Rattle.recorder.specs.Projects.{Project, bytes_at}
 use Rattle.sessions.specs.Sessions.{Entry}
 use Rattle.graph_rules.specs.Pasts.{Past}

@@ -16,7 +16,7 @@ use Rattle.recorder.specs.Backed.{Meaning, ReadLists, Queries, AreLawful, ReadVa
 use Rattle.sessions.specs.Sessions.{SessionValue, IsSession, Entry, entry_of, entry_at}
 use Rattle.sessions.specs.Spelling.{file_of}
 use Rattle.sessions.proofs.EntryRules.{entry_of_place, has_key}
-use Rattle.mj_project.specs.Projects.{IsProject}
+use Rattle.named_files.specs.Projects.{IsProject}
 use Rattle.graph_rules.specs.Pasts.{Past}
 use Rattle.graph_rules.proofs.NextRules.{all_at}
 use Rattle.graph_rules.proofs.SessionRules.{session_graph}

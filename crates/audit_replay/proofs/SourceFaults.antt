@@ -7,7 +7,7 @@ use Rattle.item_ids.specs.declared.key.Key.TheVariants.{Source}
 use Rattle.item_ids.specs.declared.kind.Kind.TheVariants as kinds
 use Rattle.item_ids.specs.Keys.{kind_of}
 use Rattle.result_bytes.specs.declared.value.Value.TheVariants as values
-use Rattle.mj_project.specs.Projects.{names_of}
+use Rattle.named_files.specs.Projects.{names_of}
 use Rattle.recorder.specs.Projects.{Project}
 use Rattle.sessions.specs.Sessions.{SessionValue, IsSession, Entry, entry_of, entries, entry_at}
 use Rattle.sessions.proofs.EntryRules.{entry_of_place}

@@ -8,7 +8,7 @@ ghost use Rattle.audit_replay.specs.Logs.{RunsExecuted, RunsNoOther};
 
 use crate::chain::{Audited, audit_files};
 use audit_graph::AuditFault;
-use mj_project::Project;
+use named_files::Project;
 use recorder::Runner;
 use std::alloc::Global;
 

@@ -14,7 +14,7 @@ use crate::session::audit_session;
 use crate::sum::{LastSession, Sum};
 use audit_graph::AuditFault;
 use devices::Feed;
-use mj_project::Project;
+use named_files::Project;
 use recorder::Runner;
 use sessions::Session;
 use std::alloc::Global;

@@ -4,7 +4,7 @@ ghost use Rattle.std.specs.Arc.{arc_value};
 ghost use Rattle.std.specs.Option.{option_copied};
 ghost use Rattle.sessions.specs.Sessions.{entry_at};
 ghost use Rattle.audit_graph.specs.Sources.{HasSources};
-ghost use Rattle.mj_project.specs.Projects.{IsProject};
+ghost use Rattle.named_files.specs.Projects.{IsProject};
 ghost use Rattle.audit_replay.specs.Projects.{HasFilesAlike};
 ghost use Rattle.audit_replay.specs.Sums.{IsAnswer, KeepsSession};
 
@@ -14,7 +14,7 @@ pub(crate) mod files;
 use crate::sum::answer::answer_of;
 use crate::sum::files::{are_files_of, texts_in};
 use fingerprint::Sealed;
-use mj_project::Project;
+use named_files::Project;
 use profiles::Profile;
 use sessions::Session;
 use std::alloc::{AllocError, Global};

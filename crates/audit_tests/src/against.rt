@@ -4,7 +4,7 @@ use crate::said::{Said, told};
 use answer_fixtures::project_of;
 use audit_graph::AuditFault;
 use audit_replay::audit_against;
-use mj_project::Project;
+use named_files::Project;
 use providers::MiniJava;
 use session_fixtures::{FIRST, file_of};
 use std::alloc::Global;

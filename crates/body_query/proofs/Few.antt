@@ -10,10 +10,10 @@ use Rattle.mj_members.specs.Declarations.{ClassDecl}
 use Rattle.mj_classes.specs.Declarations.{number_classes, main_first, classes_of, declared_from, decl}
 use Rattle.mj_classes.specs.Members.{own_method}
 use Rattle.mj_classes.proofs.Tables.{all_append}
-use Rattle.mj_answer.proofs.Alike.{Contains-first, Contains-later}
+use Rattle.ordered_names.proofs.Alike.{Contains-first, Contains-later}
 use Rattle.mj_phrases.specs.declared.verdict.Mistake.{Mistake}
 use Rattle.mj_phrases.specs.Inquiries.{World}
-use Rattle.mj_project.specs.Projects.{SourceFile}
+use Rattle.named_files.specs.Projects.{SourceFile}
 use Rattle.mj_rules.specs.Sentences.{file_of, trees_of, classes_in}
 use Rattle.mj_rules.specs.ClassFaults.{main_word}
 use Rattle.mj_rules.proofs.Declared.{marks_fit}

@@ -17,7 +17,7 @@ use Rattle.mj_phrases.specs.Table.{Scope, phrase_of, phrases_of, statement_phras
 use Rattle.mj_phrases.specs.Variables.{variables_of, name_mark, has_name, add_repeated, add_repeated_each}
 use Rattle.mj_typing.specs.Bodies.{return_type_mark, add_undeclared, add_undeclared_each, method_faults, main_faults}
 use Rattle.mj_answer.specs.declared.code.Code.TheVariants.{E206, E207}
-use Rattle.mj_answer.proofs.Alike.{Contains-first, Contains-later}
+use Rattle.ordered_names.proofs.Alike.{Contains-first, Contains-later}
 use Rattle.item_ids.proofs.Lists.{all_push}
 
 module _ (k n : ℕ) (fits : k ≤ n) where

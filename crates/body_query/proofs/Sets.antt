@@ -3,7 +3,7 @@ use Rattle.std.proofs.Common.{◌≡◌, List, [], ◌∷◌}
 use Rattle.mj_tree.specs.Trees.{Name}
 use Rattle.mj_answer.specs.declared.diagnostic.Diagnostic.{Diagnostic}
 use Rattle.mj_answer.specs.Order.{Before, IsAscending}
-use Rattle.mj_answer.proofs.Alike.{one_list_by}
+use Rattle.ordered_names.proofs.Alike.{one_list_by}
 use Rattle.mj_answer.proofs.Orders.{faults}
 use Rattle.mj_rules.specs.Answering.{set_of, fault_order}
 use Rattle.mj_rules.proofs.Composing.{SameFaults}

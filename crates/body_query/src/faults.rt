@@ -7,9 +7,9 @@ ghost use Rattle.body_query.specs.Body.{faults_of_mistakes};
 
 use answer_bytes::Faults;
 use mj_answer::{Code, Diagnostic, fault_set};
-use mj_lexer::Name;
 use mj_phrases::Mistake;
 use mj_tree::Place;
+use ordered_names::Name;
 use std::alloc::{AllocError, Global};
 
 /// The number in four bytes. Numbers above `u32::MAX` saturate.

@@ -10,10 +10,10 @@ ghost use Rattle.recorder.specs.Programs.{Goes, GivesUp};
 ghost use Rattle.body_query.specs.Programs.{reads_of};
 
 use body_questions::{ask_declared, ask_descends, ask_field, ask_method};
-use mj_lexer::Name;
 use mj_phrases::{Asking, MethodTypes, Mistake, Stop};
 use mj_tree::{MethodTree, Stmt, Ty};
 use mj_typing::{check_main_statement, check_method};
+use ordered_names::Name;
 use recorder::{Reader, Recorder, RunFault};
 use std::alloc::Global;
 use std::marker::{Brand, PhantomData};

@@ -4,7 +4,7 @@ ghost use Rattle.std.specs.Str.{bytes_eq};
 ghost use Rattle.std.specs.List.{list_any};
 ghost use Rattle.body_questions.specs.Classes.{is_declared_in as declared_told, descends_in as descent_told};
 
-use mj_lexer::Name;
+use ordered_names::Name;
 use result_bytes::Value;
 
 /// Whether an answer has the header of a class.

@@ -4,9 +4,9 @@ ghost use Rattle.std.specs.Str.{bytes_eq};
 ghost use Rattle.body_questions.specs.Members.{fields_in, methods_in, field_in as field_told, method_in as method_told};
 
 use mj_answer::{FieldRow, MethodRow, find_by_name};
-use mj_lexer::Name;
 use mj_phrases::{MethodSignature, MethodTypes};
 use mj_tree::{Ty, copy_types};
+use ordered_names::Name;
 use result_bytes::Value;
 use std::alloc::{AllocError, Global};
 

@@ -6,9 +6,9 @@ ghost use Rattle.body_questions.specs.Questions.{declared_step, descends_step, f
 use crate::classes::{descends_in, is_declared_in};
 use crate::members::{field_in, method_in};
 use item_ids::Key;
-use mj_lexer::Name;
 use mj_phrases::{MethodSignature, MethodTypes};
 use mj_tree::Ty;
+use ordered_names::Name;
 use recorder::{Reader, Recorder, RunFault, read};
 use std::alloc::Global;
 

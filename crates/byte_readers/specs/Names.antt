@@ -1,7 +1,7 @@
 -- What a name is.
 use Rattle.std.specs.Prelude.{◌≡◌, ℕ, ◌<◌, ◌≤◌, true, List, length}
 use Rattle.std.specs.Str.{is_utf8}
-use Rattle.mj_lexer.specs.Bytes.{most_name_bytes}
+use Rattle.ordered_names.specs.Names.{most_name_bytes}
 
 -- a text of 1 to 255 bytes
 pub record IsName (bytes : List ℕ) : Type 0 where

@@ -1,7 +1,7 @@
 //! Names.
 ghost use Rattle.std.specs.Prelude.{◌≡◌, ◌<◌, ◌≤◌, ◌++◌, List, ℕ, length, OnOk, IfOk, IfSome, is_some};
 ghost use Rattle.std.specs.Str.{is_utf8};
-ghost use Rattle.mj_lexer.specs.Bytes.{most_name_bytes};
+ghost use Rattle.ordered_names.specs.Names.{most_name_bytes};
 ghost use Rattle.byte_readers.specs.Spelling.{name};
 ghost use Rattle.byte_readers.specs.Reading.{Decodes, name_at};
 ghost use Rattle.byte_readers.specs.Names.{IsName};
@@ -9,7 +9,7 @@ ghost use Rattle.byte_readers.specs.Names.{IsName};
 use crate::breach::{Breach, ReadError};
 use crate::fields::{not_canonical, read_byte};
 use crate::format::Format;
-use mj_lexer::Name;
+use ordered_names::Name;
 use std::alloc::{AllocError, Global};
 
 /// Names: one byte of length, and the bytes of the text.

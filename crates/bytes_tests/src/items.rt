@@ -2,7 +2,7 @@ use byte_readers::{
     Breach, NameFormat, ReadError, put_eight, put_four, put_list, put_option, put_two, read_byte,
     read_eight, read_four, read_list, read_option, read_two,
 };
-use mj_lexer::Name;
+use ordered_names::Name;
 use std::alloc::AllocError;
 use std::test::*;
 

@@ -9,8 +9,8 @@ ghost use Rattle.cached_check.specs.Checks.{IsMadeOver, IsNextByRules};
 
 use driver::changed_files;
 use mini_java::{DriveFault, Open, run_session_alone, run_session_as};
-use mj_project::Project;
 use mj_rules::answer_laws;
+use named_files::Project;
 use sessions::{Session, Terms};
 use std::alloc::{AllocError, Global};
 use std::sync::{Arc, Wait};

@@ -10,7 +10,7 @@ use Rattle.item_ids.specs.declared.key.Key.{Key}
 use Rattle.item_ids.specs.declared.key.Key.TheVariants.{Answer}
 use Rattle.item_ids.proofs.Lists.{all_push}
 use Rattle.result_bytes.specs.declared.value.Value.{Value}
-use Rattle.mj_project.specs.Projects.{IsProject}
+use Rattle.named_files.specs.Projects.{IsProject}
 use Rattle.recorder.specs.Projects.{Project}
 use Rattle.recorder.specs.Backed.{Queries, AreLawful}
 use Rattle.sessions.specs.declared.terms.Terms.{Terms}

@@ -3,7 +3,7 @@ ghost use Rattle.std.specs.Prelude.{◌≡◌, ◌∷◌, ◌++◌, ℕ, List, [
 ghost use Rattle.profiles.specs.declared.profile.Profile.{Profile};
 ghost use Rattle.item_ids.specs.declared.key.Key.{Key};
 ghost use Rattle.result_bytes.specs.declared.value.Value.{Value};
-ghost use Rattle.mj_project.specs.Projects.{IsProject};
+ghost use Rattle.named_files.specs.Projects.{IsProject};
 ghost use Rattle.recorder.specs.Projects.{Project};
 ghost use Rattle.query_rules.specs.Reads.{reads};
 ghost use Rattle.query_rules.specs.Queries.{queries};

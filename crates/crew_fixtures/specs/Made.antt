@@ -4,7 +4,7 @@ use Rattle.item_ids.specs.declared.kind.Kind.TheVariants as kinds
 use Rattle.item_ids.specs.declared.key.Key.{Key}
 use Rattle.item_ids.specs.Keys.{kind_of, class_of}
 use Rattle.answer_fixtures.specs.Telling.{name_told}
-use Rattle.mj_project.specs.Projects.{SourceFile}
+use Rattle.named_files.specs.Projects.{SourceFile}
 use Rattle.recorder.specs.Projects.{Project}
 use Rattle.query_rules.specs.Queries.{queries}
 use Rattle.sessions.specs.declared.terms.Terms.{Terms}

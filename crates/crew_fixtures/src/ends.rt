@@ -3,7 +3,7 @@
 use answer_fixtures::{Unfit, project_of};
 use item_ids::Key;
 use mini_java::{DriveFault, Gate, run_session};
-use mj_project::Project;
+use named_files::Project;
 use session_fixtures::twice;
 use std::alloc::{AllocError, Global};
 use std::sync::Wait;

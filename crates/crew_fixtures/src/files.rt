@@ -1,10 +1,10 @@
 //! Projects of files from short texts.
 ghost use Rattle.std.specs.Prelude.{◌≡◌, IfOk, map};
-ghost use Rattle.mj_project.specs.Projects.{source_view, sources_view};
+ghost use Rattle.named_files.specs.Projects.{source_view, sources_view};
 ghost use Rattle.crew_fixtures.specs.Made.{source_file, source_files};
 
 use answer_fixtures::Unfit;
-use mj_project::Project;
+use named_files::Project;
 use std::alloc::{AllocError, Global};
 
 /// The name of a file and its text.

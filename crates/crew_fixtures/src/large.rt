@@ -1,10 +1,10 @@
 //! Projects of many classes.
 ghost use Rattle.std.specs.Prelude.{◌≡◌, [], ◌∷◌, codes, IfOk};
-ghost use Rattle.mj_project.specs.Projects.{names_of, sources_view};
+ghost use Rattle.named_files.specs.Projects.{names_of, sources_view};
 
 use crate::files::project_with;
 use answer_fixtures::Unfit;
-use mj_project::Project;
+use named_files::Project;
 use std::alloc::{AllocError, Global};
 
 /// A class that prints a number.

@@ -13,7 +13,7 @@ use crate::large::{chain, cut_chain, empty_classes};
 use answer_fixtures::Unfit;
 use item_ids::Kind;
 use mini_java::{Gate, Open, Reports, run_session, run_session_as};
-use mj_project::Project;
+use named_files::Project;
 use session_file::digest;
 use sessions::{Mark, Session, Terms};
 use std::alloc::{AllocError, AllocFailed, Global};

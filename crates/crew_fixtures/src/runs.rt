@@ -12,7 +12,7 @@ use crate::hooks::{Counting, Hooked};
 use crate::making::share;
 use answer_fixtures::Unfit;
 use mini_java::{Crew, DriveFault, Open, Reports, drive};
-use mj_project::Project;
+use named_files::Project;
 use session_file::digest;
 use sessions::{Mark, Session};
 use std::alloc::Global;

@@ -9,7 +9,7 @@ use crate::hooks::{Hook, Hooked};
 use answer_fixtures::{Unfit, project_of};
 use item_ids::Key;
 use mini_java::{Crew, DriveFault, Open, drive, run_session_as};
-use mj_project::Project;
+use named_files::Project;
 use session_file::digest;
 use session_fixtures::twice;
 use sessions::{Session, Terms};

@@ -3,7 +3,7 @@ use Rattle.std.specs.Prelude.{◌≡◌, ◌==◌, ◌&&◌, ◌++◌, ℕ, Bool
 use Rattle.std.specs.List.{list_all}
 use Rattle.mj_lexer.specs.Places.{line_of, column_of}
 use Rattle.mj_rules.specs.AnswerWords.{AnswerValue, code_number}
-use Rattle.mj_project.specs.Projects.{SourceFile}
+use Rattle.named_files.specs.Projects.{SourceFile}
 use Rattle.code_words.specs.Sentences.{sentence_of}
 use Rattle.fault_lines.specs.Places.{TextPlace}
 use Rattle.fault_lines.specs.FaultLines.{AreLinesOf}

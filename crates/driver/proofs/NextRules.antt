@@ -1,7 +1,7 @@
 -- The session that a history closes with is the next one; and the refusals.
 use Rattle.std.proofs.Common.{◌≡◌, ◌↔◌, ℕ, ◌≤◌, List, Option, Some, Result, Ok, Err, refl, sym, ◌∙◌, arith}
 use Rattle.std.specs.Prelude.{MatchResult, IfSome}
-use Rattle.mj_project.specs.Projects.{IsProject}
+use Rattle.named_files.specs.Projects.{IsProject}
 use Rattle.recorder.specs.Projects.{Project}
 use Rattle.recorder.specs.Backed.{Meaning, ReadLists, Queries, AreLawful}
 use Rattle.sessions.specs.declared.terms.Terms.{Terms}

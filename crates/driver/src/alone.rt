@@ -11,7 +11,7 @@ use crate::laws::sessions_are_next;
 use crate::lists::Lists;
 use crate::reports::Reports;
 use crate::session::{Basis, end, keeps_laws, past_is_session};
-use mj_project::Project;
+use named_files::Project;
 use recorder::Runner;
 use sessions::Session;
 use shared_table::{Gate, Naming, OpenFault, Opening, Table};

@@ -3,8 +3,8 @@ ghost use Rattle.std.specs.Prelude.{◌<◌, ◌≤◌, length, IfOk};
 ghost use Rattle.project_inputs.specs.Inputs.{AreNamed};
 
 use item_ids::Key;
-use mj_lexer::Name;
-use mj_project::Project;
+use named_files::Project;
+use ordered_names::Name;
 use profiles::Profile;
 use project_inputs::same_source;
 use sessions::Session;

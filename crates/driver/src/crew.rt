@@ -4,7 +4,7 @@ ghost use Rattle.std.specs.Prelude.{◌≡◌, ◌+◌, ◌<◌, ◌≤◌, IfOk
 use crate::jobs::do_jobs;
 use crate::lists::Lists;
 use known_list::Opened;
-use mj_project::Project;
+use named_files::Project;
 use recorder::{Read, Runner};
 use shared_table::{Alone, Counted, Gate, Naming, Shared, Tally};
 use std::alloc::{AllocError, Global};

@@ -1,13 +1,13 @@
 //! The jobs of a session, by one worker of several.
 ghost use Rattle.std.specs.Prelude.{◌<◌, ◌≤◌, length, map};
-ghost use Rattle.mj_project.specs.Projects.{IsProject, most_name_bytes, source_view};
+ghost use Rattle.named_files.specs.Projects.{IsProject, most_name_bytes, source_view};
 ghost use Rattle.shared_table.specs.Ensures.{ShowsOutcomes};
 
 use crate::lists::{Lists, Pass};
 use fingerprint::Sealed;
 use item_ids::Key;
-use mj_lexer::Name;
-use mj_project::Project;
+use named_files::Project;
+use ordered_names::Name;
 use recorder::{Outcome, Runner};
 use result_bytes::IndexRow;
 use shared_table::{Fault, Store, Worker};

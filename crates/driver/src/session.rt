@@ -16,7 +16,7 @@ use crate::fault::DriveFault;
 use crate::laws::sessions_are_next;
 use crate::lists::Lists;
 use crate::reports::Reports;
-use mj_project::Project;
+use named_files::Project;
 use recorder::Runner;
 use sessions::{Session, Terms};
 use shared_table::{CloseFault, Counted, Gate, Naming, OpenFault, Opening, Table};

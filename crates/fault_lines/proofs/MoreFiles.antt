@@ -3,7 +3,7 @@ use Rattle.std.proofs.Common.{◌≡◌, ◌∙◌, ℕ, ◌+◌, ◌<◌, List,
 use Rattle.std.proofs.lemmas.List.{take_more, map-append}
 use Rattle.std.specs.declared.alloc.Global.{Global}
 use Rattle.mj_tree.specs.Trees.{File}
-use Rattle.mj_project.specs.Projects.{SourceFile, source_view, sources_view}
+use Rattle.named_files.specs.Projects.{SourceFile, source_view, sources_view}
 use Rattle.mj_rules.specs.Sentences.{file_of, trees_of}
 
 module _ (files : List (String Global × Vec ℕ Global)) (i : ℕ) (file : String Global × Vec ℕ Global) (lt : i < length files) (is : file ≡ get_or files i file) where

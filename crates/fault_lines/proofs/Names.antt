@@ -7,7 +7,7 @@ use Rattle.std.specs.Cmp.Lexicographic.{slice_cmp}
 use Rattle.std.proofs.lemmas.List.{take_more, length-map, length-take-le}
 use Rattle.std.proofs.lemmas.Map.Text.{is_eq-slice_cmp}
 use Rattle.mj_tree.specs.Trees.{Name}
-use Rattle.mj_project.specs.Projects.{SourceFile, names_of, IsFileName}
+use Rattle.named_files.specs.Projects.{SourceFile, names_of, IsFileName}
 use Rattle.mj_tree.proofs.Positions.{same_name, position_added, position_kept, none_of}
 
 abbrev pub place_of : List SourceFile → Name → Option ℕ

@@ -14,7 +14,7 @@ use Rattle.mj_answer.specs.declared.diagnostic.Diagnostic.{Diagnostic}
 use Rattle.mj_answer.specs.AnswerValues.{AnswerValue}
 use Rattle.mj_members.specs.Declarations.{ClassDecl}
 use Rattle.mj_classes.specs.Declarations.{decl}
-use Rattle.mj_project.specs.Projects.{SourceFile}
+use Rattle.named_files.specs.Projects.{SourceFile}
 use Rattle.mj_rules.specs.Sentences.{classes_in}
 use Rattle.fault_lines.specs.Pairs.{Pairwise}
 use Rattle.fault_lines.specs.Places.{TextPlace, in_text}

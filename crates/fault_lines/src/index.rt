@@ -30,7 +30,7 @@ impl Drop for IndexedText<'_, '_> {
 
 impl<'a, 't> Model for IndexedText<'a, 't> {
     ghost use Rattle.std.specs.Prelude.{◌≡◌};
-    ghost use Rattle.mj_project.specs.Projects.{SourceFile};
+    ghost use Rattle.named_files.specs.Projects.{SourceFile};
     ghost use Rattle.file_index.specs.Reading.{tokens_or_none};
 
     ghost Value = { SourceFile };

@@ -16,8 +16,8 @@ use crate::sources::{ReadProject, ReadText, cut};
 use crate::texts::{FileText, Texts, number_names};
 use mj_answer::{Answer, ClassAnswer, Code, Diagnostic};
 use mj_classes::Declarations;
-use mj_lexer::Name;
 use mj_tree::Place;
+use ordered_names::Name;
 use std::alloc::{AllocError, Global};
 use std::collections::BTreeMap;
 

@@ -5,8 +5,8 @@ ghost use Rattle.std.specs.Prelude.{◌≡◌, length, IfOk, OnOk};
 use crate::sources::ReadText;
 use mj_answer::{Answer, ClassAnswer, Diagnostic};
 use mj_classes::Declarations;
-use mj_lexer::Name;
 use mj_tree::Place;
+use ordered_names::Name;
 use std::alloc::{AllocError, Global};
 use std::collections::BTreeMap;
 

@@ -2,14 +2,14 @@
 ghost use Rattle.std.specs.Prelude.{◌≡◌, ◌++◌, ◌∷◌, [], IfOk, IfSome, OnOk, option_map};
 ghost use Rattle.mj_tree.specs.Views.{file_view};
 ghost use Rattle.mj_classes.specs.Classes.{files_view};
-ghost use Rattle.mj_project.specs.Projects.{source_view, sources_view, IsProject};
+ghost use Rattle.named_files.specs.Projects.{source_view, sources_view, IsProject};
 ghost use Rattle.file_index.specs.Reading.{IsStop, tokens_or_none};
 ghost use Rattle.mj_rules.specs.Sentences.{file_of, trees_of};
 
 use file_index::{ReadFile, read};
 use mj_lexer::{LexFault, Token, lex};
-use mj_project::Project;
 use mj_tree::FileTree;
+use named_files::Project;
 use std::alloc::{AllocError, Global};
 use std::marker::Model;
 
@@ -33,7 +33,7 @@ impl Drop for ReadText<'_> {
 
 impl<'a> Model for ReadText<'a> {
     ghost use Rattle.std.specs.Prelude.{◌≡◌, IfSome};
-    ghost use Rattle.mj_project.specs.Projects.{SourceFile, source_view};
+    ghost use Rattle.named_files.specs.Projects.{SourceFile, source_view};
     ghost use Rattle.file_index.specs.Reading.{IsStop, tokens_or_none};
 
     ghost Value = { SourceFile };
@@ -188,7 +188,7 @@ impl Drop for ReadProject<'_> {
 impl<'a> Model for ReadProject<'a> {
     ghost use Rattle.std.specs.Prelude.{◌≡◌, List};
     ghost use Rattle.mj_classes.specs.Classes.{files_view};
-    ghost use Rattle.mj_project.specs.Projects.{SourceFile, IsProject};
+    ghost use Rattle.named_files.specs.Projects.{SourceFile, IsProject};
     ghost use Rattle.mj_rules.specs.Sentences.{trees_of};
 
     ghost Value = { List SourceFile };

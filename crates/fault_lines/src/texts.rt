@@ -4,15 +4,15 @@ ghost use Rattle.std.specs.Str.{bytes_eq};
 ghost use Rattle.std.specs.BTreeMap.{get};
 ghost use Rattle.std.specs.Cmp.Lexicographic.{slice_cmp};
 ghost use Rattle.std.specs.Ordering.{nat_cmp};
-ghost use Rattle.mj_project.specs.Projects.{names_of, IsFileName};
+ghost use Rattle.named_files.specs.Projects.{names_of, IsFileName};
 ghost use Rattle.fault_lines.specs.FaultLines.{place_in, file_named, IsStopPlace};
 
 use crate::index::IndexedText;
 use crate::places::SourcePlace;
 use crate::sources::{ReadText, cut};
 use file_index::LinedText;
-use mj_lexer::Name;
 use mj_tree::Place;
+use ordered_names::Name;
 use std::alloc::{AllocError, Global};
 use std::collections::BTreeMap;
 use std::marker::Model;
@@ -31,7 +31,7 @@ impl Drop for FileText<'_, '_> {
 
 impl<'a, 't> Model for FileText<'a, 't> {
     ghost use Rattle.std.specs.Prelude.{◌≡◌, IfSome};
-    ghost use Rattle.mj_project.specs.Projects.{SourceFile};
+    ghost use Rattle.named_files.specs.Projects.{SourceFile};
 
     ghost Value = { SourceFile };
 
@@ -130,7 +130,7 @@ impl<'a, 't> Model for Texts<'a, 't> {
     ghost use Rattle.std.specs.BTreeMap.{get};
     ghost use Rattle.std.specs.Cmp.Lexicographic.{slice_cmp};
     ghost use Rattle.std.specs.Ordering.{nat_cmp};
-    ghost use Rattle.mj_project.specs.Projects.{SourceFile};
+    ghost use Rattle.named_files.specs.Projects.{SourceFile};
 
     ghost Value = { List SourceFile };
 

@@ -4,9 +4,10 @@ ghost use Rattle.mj_parser.specs.Locations.{existing, class_start, class_end, cl
 
 use crate::methods::{ClassMethods, index_classes};
 use crate::terminals::TerminalPlaces;
-use mj_lexer::{Name, Terminal, Token};
+use mj_lexer::{Terminal, Token};
 use mj_parser::method_name;
 use mj_tree::Place;
+use ordered_names::Name;
 use std::alloc::{AllocError, Global};
 use std::marker::Model;
 

@@ -12,8 +12,9 @@ ghost use Rattle.file_index.specs.Standing.{standing, is_named, first_method, cl
 
 use crate::terminals::TerminalPlaces;
 use mj_expressions::name;
-use mj_lexer::{Name, Token};
+use mj_lexer::Token;
 use mj_parser::method_name;
+use ordered_names::Name;
 use std::alloc::{AllocError, Global};
 use std::collections::BTreeMap;
 use std::marker::Model;

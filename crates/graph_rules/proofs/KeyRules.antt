@@ -9,7 +9,7 @@ use Rattle.item_ids.proofs.Apart.{test_same, test_itself}
 use Rattle.result_bytes.specs.declared.value.Value.{Value}
 use Rattle.result_bytes.specs.declared.value.Value.TheVariants as values
 use Rattle.result_bytes.specs.Values.{IsOfKind}
-use Rattle.mj_project.specs.Projects.{names_of, IsProject}
+use Rattle.named_files.specs.Projects.{names_of, IsProject}
 use Rattle.recorder.specs.Projects.{Project, bytes_at}
 use Rattle.recorder.specs.Backed.{Meaning, ReadLists, RunnerLaws}
 use Rattle.graph_rules.specs.Keys.{same_key, input_of}

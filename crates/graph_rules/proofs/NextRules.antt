@@ -11,7 +11,7 @@ use Rattle.item_ids.proofs.Lists.{all_push, all_from}
 use Rattle.item_ids.specs.Inputs.{rank}
 use Rattle.result_bytes.specs.declared.value.Value.{Value}
 use Rattle.fingerprint.specs.Prints.{print_of}
-use Rattle.mj_project.specs.Projects.{IsProject}
+use Rattle.named_files.specs.Projects.{IsProject}
 use Rattle.recorder.specs.Projects.{Project}
 use Rattle.recorder.specs.Backed.{Meaning, ReadLists, ReadValue, keys, RunnerLaws, Gives, GivesEach}
 use Rattle.sessions.specs.declared.mark.Mark.{Mark}

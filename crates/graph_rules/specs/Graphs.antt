@@ -5,8 +5,8 @@ use Rattle.item_ids.specs.declared.key.Key.{Key}
 use Rattle.item_ids.specs.declared.key.Key.TheVariants.{Files, Source, Answer}
 use Rattle.item_ids.specs.Keys.{key_cmp}
 use Rattle.result_bytes.specs.declared.value.Value.{Value}
-use Rattle.mj_answer.specs.Order.{IsAscendingBy}
-use Rattle.mj_project.specs.Projects.{names_of}
+use Rattle.ordered_names.specs.Order.{IsAscendingBy}
+use Rattle.named_files.specs.Projects.{names_of}
 use Rattle.recorder.specs.Projects.{Project}
 use Rattle.sessions.specs.declared.mark.Mark.{Mark}
 use Rattle.sessions.specs.Sessions.{Entry}

@@ -6,7 +6,7 @@ use Rattle.item_ids.specs.Keys.{key_cmp}
 use Rattle.item_ids.specs.Inputs.{by_input}
 use Rattle.result_bytes.specs.declared.value.Value.{Value}
 use Rattle.result_bytes.specs.declared.value.Value.TheVariants as values
-use Rattle.mj_project.specs.Projects.{names_of}
+use Rattle.named_files.specs.Projects.{names_of}
 use Rattle.recorder.specs.Projects.{Project, bytes_at}
 
 -- whether the two keys are one

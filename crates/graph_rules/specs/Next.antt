@@ -5,7 +5,7 @@ use Rattle.item_ids.specs.declared.key.Key.TheVariants.{Files, Source}
 use Rattle.item_ids.specs.Inputs.{rank}
 use Rattle.result_bytes.specs.declared.value.Value.TheVariants as values
 use Rattle.fingerprint.specs.Prints.{print_of}
-use Rattle.mj_project.specs.Projects.{names_of, IsProject}
+use Rattle.named_files.specs.Projects.{names_of, IsProject}
 use Rattle.recorder.specs.Projects.{Project, bytes_at}
 use Rattle.recorder.specs.Backed.{Meaning, ReadLists, ReadLaws, Queries}
 use Rattle.sessions.specs.declared.mark.Mark.{Mark}

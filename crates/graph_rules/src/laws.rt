@@ -2,7 +2,7 @@
 ghost use Rattle.std.specs.Prelude.{◌≡◌, ◌↔◌, ◌<◌, List, Option, None, IfSome, true};
 ghost use Rattle.item_ids.specs.declared.key.Key.{Key};
 ghost use Rattle.item_ids.specs.Inputs.{rank};
-ghost use Rattle.mj_project.specs.Projects.{IsProject};
+ghost use Rattle.named_files.specs.Projects.{IsProject};
 ghost use Rattle.recorder.specs.Projects.{Project};
 ghost use Rattle.recorder.specs.Backed.{Meaning, ReadLists, RunnerLaws};
 ghost use Rattle.sessions.specs.Sessions.{Entry, SessionValue, IsSession, entries, entry_at, past_entry};

@@ -23,6 +23,10 @@ all_kinds =
     Files ∷ Source ∷ Tree ∷ Index ∷ Header ∷ Method ∷ Sig ∷ Supers ∷ Members ∷ CheckClass ∷ CheckBody
     ∷ Diags ∷ Answer ∷ []
 
+-- how many there are: their numbers are those below it
+abbrev pub kind_count : ℕ
+kind_count = 13
+
 -- the kind of this number
 unfoldable pub kind_with : ℕ → Option Kind
 kind_with n = find (λ kind. number_of kind == n) all_kinds

@@ -4,7 +4,7 @@ ghost use Rattle.item_ids.specs.Kinds.{FitNames, text_of};
 ghost use Rattle.std.specs.Option.{option_copied};
 
 use crate::kind::Kind;
-use mj_lexer::Name;
+use ordered_names::Name;
 use std::alloc::{AllocError, Global};
 use std::cmp::Ordering;
 use std::hash::{Hash, Hasher};

@@ -1,6 +1,6 @@
 //! Kinds of queries.
 ghost use Rattle.std.specs.Prelude.{◌≡◌, ◌<◌, ◌↔◌, IsSome, IfSome};
-ghost use Rattle.item_ids.specs.Kinds.{number_of, rank_of};
+ghost use Rattle.item_ids.specs.Kinds.{number_of, kind_count, rank_of};
 
 /// What a query asks for.
 #[derive(Clone, Copy, Debug, PartialEq, Eq, PartialOrd, Ord)]
@@ -34,10 +34,13 @@ pub enum Kind {
 }
 
 impl Kind {
+    /// How many kinds there are. Their numbers are those below it.
+    pub const COUNT: usize = 13;
+
     /// The kind's number, by which kinds are written in files and keys are ordered.
     pub fn number(self) -> u8
         ensures number { result ≡ number_of self }
-        ensures few { result < 13 }
+        ensures few { result < kind_count }
     {
         match self {
             Kind::Files => 0,
@@ -59,7 +62,7 @@ impl Kind {
     /// The kind that has this number.
     pub fn from_number(number: u8) -> Option<Kind>
         ensures found { IfSome result (λ kind. number_of kind ≡ number) }
-        ensures known { IsSome result ↔ (number < 13) }
+        ensures known { IsSome result ↔ (number < kind_count) }
     {
         match number {
             0 => Some(Kind::Files),

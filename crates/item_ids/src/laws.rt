@@ -12,7 +12,7 @@ ghost use Rattle.byte_readers.specs.Names.{IsName};
 
 use crate::key::Key;
 use byte_readers::check_name;
-use mj_lexer::Name;
+use ordered_names::Name;
 
 /// A key's type keeps that its names are names.
 pub fn is_key(key: &Key)

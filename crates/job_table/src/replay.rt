@@ -9,7 +9,7 @@ use crate::event::Event;
 use crate::fault::{Asked, OpenFault, ReplayFault, StepFault, TableFault};
 use crate::table::Table;
 use fingerprint::Sealed;
-use mj_project::Project;
+use named_files::Project;
 use recorder::Runner;
 use sessions::{Session, Terms};
 use std::alloc::Global;

@@ -20,7 +20,7 @@ use key_states::{
     KeyState, NodeMap, Standing, check_past, find_claimed, find_running, key_state, result_of,
     session_of,
 };
-use mj_project::Project;
+use named_files::Project;
 use project_inputs::Inputs;
 use recorder::{Outcome, Runner};
 use sessions::{Finder, Mark, Session, Terms, share};
@@ -95,7 +95,7 @@ impl<R: Runner> Table<R> {
     ghost use Rattle.graph_rules.specs.Settings.{crossing_kinds};
     ghost use Rattle.graph_rules.specs.Sound.{AreBacked, IsSound, IsInOrder};
     ghost use Rattle.graph_rules.specs.Histories.{IsOrderly};
-    ghost use Rattle.mj_project.specs.Projects.{IsProject};
+    ghost use Rattle.named_files.specs.Projects.{IsProject};
     ghost use Rattle.job_table.specs.Tables.{past_of, state_of};
     ghost use Rattle.job_table.specs.Calls.{OpenGives, AskGives, MarkGives, BeginGives, FinishGives, FailGives};
     ghost use Rattle.job_table.specs.Closes.{CloseGives};

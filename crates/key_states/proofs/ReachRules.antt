@@ -10,7 +10,7 @@ use Rattle.item_ids.specs.declared.key.Key.{Key}
 use Rattle.item_ids.specs.declared.key.Key.TheVariants.{Files, Source, Answer}
 use Rattle.item_ids.specs.Keys.{key_cmp}
 use Rattle.result_bytes.specs.declared.value.Value.{Value}
-use Rattle.mj_project.specs.Projects.{SourceFile}
+use Rattle.named_files.specs.Projects.{SourceFile}
 use Rattle.recorder.specs.Projects.{Project}
 use Rattle.sessions.specs.declared.mark.Mark.{Mark}
 use Rattle.graph_rules.specs.Keys.{input_of}

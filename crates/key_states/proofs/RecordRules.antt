@@ -13,7 +13,7 @@ use Rattle.item_ids.proofs.Apart.{key_itself}
 use Rattle.item_ids.proofs.Lists.{all_push}
 use Rattle.item_ids.specs.KeyLists.{AreLower, NoneTwice}
 use Rattle.item_ids.specs.Inputs.{rank}
-use Rattle.mj_answer.specs.Order.{IsAscendingBy}
+use Rattle.ordered_names.specs.Order.{IsAscendingBy}
 use Rattle.result_bytes.specs.declared.value.Value.{Value}
 use Rattle.recorder.specs.Projects.{Project}
 use Rattle.sessions.specs.declared.mark.Mark.{Mark}

@@ -5,7 +5,7 @@ use Rattle.std.specs.Arc.{arc_value}
 use Rattle.item_ids.specs.declared.key.Key.{Key}
 use Rattle.item_ids.specs.declared.key.Key.TheVariants.{Files}
 use Rattle.result_bytes.specs.declared.value.Value.{Value}
-use Rattle.mj_answer.specs.Order.{IsAscendingBy}
+use Rattle.ordered_names.specs.Order.{IsAscendingBy}
 use Rattle.recorder.specs.Projects.{Project}
 use Rattle.sessions.specs.declared.mark.Mark.{Mark}
 use Rattle.sessions.specs.Sessions.{RecordValue, IsRecord}

@@ -1,7 +1,7 @@
 -- What is told of bytes, of files and of a project.
 use Rattle.std.proofs.Common.{◌≡◌, ◌∙◌, inl, inr, ℕ, ◌≤◌, Bool, true, false, List, Option, Result, Ok, Err, arith, ap}
 use Rattle.std.specs.Prelude.{◌⊎◌, IfOk}
-use Rattle.mj_project.specs.Projects.{SourceFile}
+use Rattle.named_files.specs.Projects.{SourceFile}
 use Rattle.packed_files.specs.Runs.{packed_runs}
 use Rattle.packed_files.specs.declared.flaws.UnpackFault.TheVariants as faults
 use Rattle.profiles.specs.Profiles.{profile_number}

@@ -4,7 +4,7 @@ use Rattle.audit_graph.specs.declared.fault.AuditFault.{AuditFault}
 use Rattle.audit_replay.specs.Audits.{AreApart, HaveFiles, last_entry}
 use Rattle.graph_rules.specs.Next.{AreSources}
 use Rattle.mini_java.specs.Headline.{ChainRefuses, ChainRefusesAgainst, IsAcceptedAgainst, IsAcceptedChain, IsOfTheRules}
-use Rattle.mj_project.specs.Projects.{SourceFile}
+use Rattle.named_files.specs.Projects.{SourceFile}
 use Rattle.packed_files.specs.Runs.{packed_runs}
 use Rattle.profiles.specs.declared.profile.Profile.{Profile}
 use Rattle.reports.specs.Auditing.{AreAcceptedTexts}

@@ -1,7 +1,7 @@
 -- What a check in memory tells.
 use Rattle.std.specs.Prelude.{◌≡◌, ◌⊎◌, ℕ, Bool, List, [], Option}
 use Rattle.cached_check.specs.Checks.{IsMadeOver}
-use Rattle.mj_project.specs.Projects.{SourceFile}
+use Rattle.named_files.specs.Projects.{SourceFile}
 use Rattle.profiles.specs.Profiles.{profile_number}
 use Rattle.reports.specs.Checking.{AreSessionTexts}
 use Rattle.reports.specs.declared.texts.AnswerTexts.{AnswerTexts}

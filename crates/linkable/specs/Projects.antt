@@ -1,7 +1,7 @@
 -- The project of the files that bytes are.
 use Rattle.std.specs.Prelude.{◌≡◌, ◌⊎◌, ℕ, List}
-use Rattle.mj_project.specs.Projects.{IsProject, Refuses, SourceFile}
-use Rattle.mj_project.specs.declared.project.ProjectFault.{ProjectFault}
+use Rattle.named_files.specs.Projects.{IsProject, Refuses, SourceFile}
+use Rattle.named_files.specs.declared.project.ProjectFault.{ProjectFault}
 use Rattle.packed_files.specs.FlawWords.{flaw_line}
 use Rattle.packed_files.specs.Packing.{packed}
 use Rattle.packed_files.specs.Unpacking.{IsFlawed}

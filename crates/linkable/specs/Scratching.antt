@@ -2,8 +2,8 @@
 use Rattle.std.specs.Prelude.{◌≡◌, ◌⊎◌, ℕ, Bool, List}
 use Rattle.diagnostic_lines.specs.Lines.{IsFaultText, is_clean}
 use Rattle.reports.specs.Refusals.{refusal_words}
-use Rattle.mj_project.specs.Projects.{SourceFile, IsProject, Refuses}
-use Rattle.mj_project.specs.declared.project.ProjectFault.{ProjectFault}
+use Rattle.named_files.specs.Projects.{SourceFile, IsProject, Refuses}
+use Rattle.named_files.specs.declared.project.ProjectFault.{ProjectFault}
 use Rattle.mj_rules.specs.AnswerWords.{AnswerValue, text_of}
 use Rattle.mj_rules.specs.Rules.{Rules}
 use Rattle.packed_files.specs.FlawWords.{flaw_line}

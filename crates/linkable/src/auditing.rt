@@ -12,7 +12,7 @@ use crate::stopping::Stop;
 use crate::told::Told;
 use audit_graph::AuditFault;
 use mini_java::{Audited, accepted_chains_are_the_rules, audit_chain, audit_chain_against};
-use mj_project::Project;
+use named_files::Project;
 use reports::{accepted_texts, chain_refusal};
 use std::alloc::{AllocError, Global};
 

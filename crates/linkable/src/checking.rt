@@ -13,7 +13,7 @@ use crate::terms::{form_of, profile_of};
 use crate::told::{Told, ToldSession};
 use cached_check::next_session_alone;
 use devices::MemorySink;
-use mj_project::Project;
+use named_files::Project;
 use reports::session_texts;
 use session_file::write;
 use sessions::{Session, Terms};

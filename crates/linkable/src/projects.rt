@@ -1,11 +1,11 @@
 //! The project of the files that bytes are.
 ghost use Rattle.std.specs.Prelude.{◌≡◌, IfOk, IfErr};
-ghost use Rattle.mj_project.specs.Projects.{IsProject, sources_view};
+ghost use Rattle.named_files.specs.Projects.{IsProject, sources_view};
 ghost use Rattle.linkable.specs.Projects.{AreNoProject, IsNoProjectIn, IsProjectIn};
 ghost use Rattle.linkable.specs.Stopping.{Says};
 
 use crate::stopping::Stop;
-use mj_project::Project;
+use named_files::Project;
 use packed_files::{UnpackFault, flaw_text, unpack};
 use reports::refusal_text;
 use std::alloc::Global;

@@ -7,7 +7,7 @@ use crate::projects::project_in;
 use crate::stopping::Stop;
 use crate::terms::profile_of;
 use crate::told::Told;
-use mj_project::Project;
+use named_files::Project;
 use profiles::Profile;
 use reports::scratch_texts;
 use std::alloc::{AllocError, Global};

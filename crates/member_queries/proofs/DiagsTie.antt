@@ -11,7 +11,7 @@ use Rattle.mj_answer.specs.declared.diagnostic.Diagnostic.{Diagnostic}
 use Rattle.mj_members.specs.Declarations.{ClassDecl}
 use Rattle.mj_classes.specs.Members.{own_method}
 use Rattle.mj_classes.proofs.Climb.{decl_name}
-use Rattle.mj_project.specs.Repeats.{is_in, repeats_behind, repeats}
+use Rattle.named_files.specs.Repeats.{is_in, repeats_behind, repeats}
 use Rattle.mj_typing.specs.Bodies.{method_faults, main_faults}
 use Rattle.mj_rules.specs.Sentences.{classes_in}
 use Rattle.mj_rules.specs.Worlds.{world_of}

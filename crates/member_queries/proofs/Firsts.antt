@@ -1,7 +1,7 @@
 -- Names where they stand first, one after the other.
 use Rattle.std.proofs.Common.{◌≡◌, Bool, true, false, not, List, [], ◌∷◌, ◌++◌, refl, ap, ◌∙◌, if◌then◌else◌, append-nil, append_assoc}
 use Rattle.mj_tree.specs.Trees.{Name}
-use Rattle.mj_project.specs.Repeats.{is_in, repeats_behind, repeats}
+use Rattle.named_files.specs.Repeats.{is_in, repeats_behind, repeats}
 use Rattle.member_queries.specs.FirstNames.{without_repeats, first_names}
 
 -- a name, where it is new

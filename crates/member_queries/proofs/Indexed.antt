@@ -3,13 +3,13 @@ use Rattle.std.proofs.Common.{◌≡◌, suc, ◌≤◌, Bool, ◌||◌, List, [
 use Rattle.std.specs.Prelude.{Contains}
 use Rattle.std.specs.List.{filter_map}
 use Rattle.mj_tree.specs.Trees.{Name}
-use Rattle.mj_answer.specs.Order.{NameBefore}
+use Rattle.ordered_names.specs.Order.{NameBefore}
 use Rattle.mj_members.specs.Declarations.{ClassDecl}
 use Rattle.mj_classes.specs.Declarations.{decl}
 use Rattle.mj_classes.specs.Chains.{AreDistinct, is_in}
 use Rattle.mj_classes.proofs.Climb.{decl_name}
 use Rattle.mj_classes.proofs.Distinct.{In, pigeons, contains_in, in_contains, listed_is, not_in}
-use Rattle.mj_project.proofs.Listed.{contains_at, place_of, map_at}
+use Rattle.named_files.proofs.Listed.{contains_at, place_of, map_at}
 use Rattle.mj_rules.specs.Sentences.{classes_in}
 use Rattle.mj_rules.specs.FaultLists.{class_names}
 use Rattle.mj_rules.specs.Answering.{set_of, name_order}

@@ -14,7 +14,7 @@ use Rattle.std.proofs.lemmas.Map.Views.{tells_apart, lookup-from_Contains, Conta
 use denote.Ref.{Bor}
 use Rattle.mj_tree.specs.Trees.{Name}
 use Rattle.mj_tree.specs.declared.tree.Field.{Field}
-use Rattle.mj_answer.specs.Order.{NameBefore, IsAscendingBy, IsAscendingByName}
+use Rattle.ordered_names.specs.Order.{NameBefore, IsAscendingBy, IsAscendingByName}
 use Rattle.mj_answer.specs.AnswerValues.{MethodRowValue, ClassTableValue}
 use Rattle.mj_members.specs.Rows.{rows_by, SayAlike}
 use Rattle.mj_members.specs.Tables.{own_rows, firsts}

@@ -6,7 +6,7 @@ use Rattle.std.specs.Ordering.{nat_cmp}
 use Rattle.std.proofs.lemmas.Map.Text.{is_eq-slice_cmp}
 use Rattle.std.proofs.lemmas.List.Folds.{list_any-append}
 use Rattle.mj_classes.specs.Chains.{is_in}
-use Rattle.mj_project.proofs.RepeatLemmas.{cond_or}
+use Rattle.named_files.proofs.RepeatLemmas.{cond_or}
 use Rattle.member_queries.specs.Met.{HasMet}
 
 pub met_more : (old new : BTreeSet (List ℕ)) (key : List ℕ) (names : List (List ℕ)) → Updates (slice_cmp nat_cmp) old new key true → HasMet old names → HasMet new (names ++ key ∷ [])

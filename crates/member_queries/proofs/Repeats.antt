@@ -3,8 +3,8 @@ use Rattle.std.proofs.Common.{◌≡◌, ◌⊎◌, inl, inr, Bool, true, false,
 use Rattle.std.proofs.lemmas.List.Elements.{Contains-push_cases}
 use Rattle.item_ids.specs.declared.key.Key.{Key}
 use Rattle.mj_tree.specs.Trees.{Name}
-use Rattle.mj_project.specs.Repeats.{is_in, repeats_behind, repeats}
-use Rattle.mj_project.proofs.RepeatLemmas.{Contains-is_in, is_in-Contains}
+use Rattle.named_files.specs.Repeats.{is_in, repeats_behind, repeats}
+use Rattle.named_files.proofs.RepeatLemmas.{Contains-is_in, is_in-Contains}
 use Rattle.recorder.proofs.Seen.{unseen_last}
 use Rattle.recorder.specs.Backed.{is_seen}
 use Rattle.query_rules.specs.Reads.{first_keys}

@@ -1,7 +1,7 @@
 -- Each name of a list where it stands first.
 use Rattle.std.specs.Prelude.{Bool, List, [], ◌∷◌, if◌then◌else◌}
 use Rattle.mj_tree.specs.Trees.{Name}
-use Rattle.mj_project.specs.Repeats.{repeats}
+use Rattle.named_files.specs.Repeats.{repeats}
 
 -- the names whose flags say that they don't stand before themselves
 abbrev pub without_repeats : List Name → List Bool → List Name

@@ -10,7 +10,7 @@ use answer_bytes::Faults;
 use body_query::class_fault_set;
 use item_ids::Key;
 use mj_answer::{Diagnostic, copy_faults};
-use mj_lexer::Name;
+use ordered_names::Name;
 use recorder::{Reader, Recorder, RunFault, read};
 use result_bytes::{Header, Value};
 use std::alloc::{AllocError, Global};

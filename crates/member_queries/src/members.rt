@@ -1,7 +1,7 @@
 //! The fields and methods of a class.
 ghost use Rattle.std.specs.Prelude.{◌≡◌, ◌++◌, ◌∷◌, [], map, option_copied, IfOk, IfErr, OnOk};
 ghost use Rattle.std.specs.Arc.{arc_value};
-ghost use Rattle.mj_answer.specs.Order.{IsAscendingByName};
+ghost use Rattle.ordered_names.specs.Order.{IsAscendingByName};
 ghost use Rattle.mj_members.specs.Classes.{field_member_view};
 ghost use Rattle.mj_members.specs.Rows.{field_rows as field_entries, SayAlike};
 ghost use Rattle.mj_members.specs.Tables.{own_rows};
@@ -16,10 +16,10 @@ use fingerprint::Sealed;
 use item_ids::Key;
 use mj_answer::{ClassTable, FieldRow, MethodRow};
 use mj_classes::FieldMember;
-use mj_lexer::Name;
 use mj_members::in_order;
 use mj_rules::field_row;
 use mj_tree::{Field, copy_types};
+use ordered_names::Name;
 use recorder::{Reader, Recorder, RunFault, read};
 use result_bytes::{Signature, Supers, Value};
 use std::alloc::{AllocError, Global};

@@ -1,6 +1,6 @@
 //! The chain of a class.
 ghost use Rattle.std.specs.Prelude.{◌≡◌, ◌++◌, ◌∷◌, [], length, option_copied, option_and_then, if◌then◌else◌, IfOk, IfErr, OnOk};
-ghost use Rattle.mj_answer.specs.Order.{IsAscendingByName};
+ghost use Rattle.ordered_names.specs.Order.{IsAscendingByName};
 ghost use Rattle.mj_classes.specs.Chains.{is_in};
 ghost use Rattle.recorder.specs.Programs.{Goes, GivesUp};
 ghost use Rattle.result_bytes.specs.Parts.{header_in};
@@ -8,7 +8,7 @@ ghost use Rattle.member_queries.specs.Supers.{is_listed as listed, chain, climb_
 
 use item_ids::Key;
 use mj_answer::position_by_name;
-use mj_lexer::Name;
+use ordered_names::Name;
 use recorder::{Reader, Recorder, RunFault, read};
 use result_bytes::{ChainEnd, IndexRow, Supers, Value};
 use std::alloc::{AllocError, Global};

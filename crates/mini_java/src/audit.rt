@@ -13,8 +13,8 @@ ghost use Rattle.mini_java.specs.Headline.{ChainRefuses, ChainRefusesAgainst, Is
 use audit_graph::AuditFault;
 use audit_replay::{Audited, audit, audit_against};
 use mj_answer::Answer;
-use mj_project::Project;
 use mj_rules::answer_laws;
+use named_files::Project;
 use providers::{MiniJava, answer_of};
 use std::alloc::Global;
 

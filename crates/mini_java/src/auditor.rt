@@ -15,8 +15,8 @@ ghost use Rattle.mini_java.specs.Taken.{HasRefused, HasTaken, RefusesBehind, Tak
 use audit_graph::AuditFault;
 use audit_replay::{Audited, Auditor};
 use devices::Feed;
-use mj_project::Project;
 use mj_rules::answer_laws;
+use named_files::Project;
 use providers::MiniJava;
 use sessions::Session;
 use std::alloc::Global;

@@ -7,7 +7,7 @@ ghost use Rattle.next_sessions.specs.Nexts.{StandsApart, IsNextSession};
 ghost use Rattle.driver.specs.Sessions.{DriveGives};
 
 use driver::{Basis, Crew, DriveFault, Gate, Reports, drive_alone, drive_as};
-use mj_project::Project;
+use named_files::Project;
 use providers::MiniJava;
 use sessions::{Session, Terms};
 use std::alloc::Global;

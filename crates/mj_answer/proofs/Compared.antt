@@ -17,8 +17,10 @@ use Rattle.mj_answer.specs.declared.diagnostic.Diagnostic.{Diagnostic}
 use Rattle.mj_answer.specs.contracts.diagnostic.DiagnosticOrd.TheImpl.{cmp-value}
 use Rattle.mj_answer.specs.contracts.diagnostic.DiagnosticPartialEq.TheImpl.{eq-value}
 use Rattle.mj_answer.specs.Codes.{code_number}
-use Rattle.mj_answer.specs.Order.{NameBefore, Before, PlaceBefore, IsAscendingBy, place_order}
-use Rattle.mj_answer.proofs.Orders.{equal_names, code_injective}
+use Rattle.ordered_names.specs.Order.{NameBefore, IsAscendingBy}
+use Rattle.mj_answer.specs.Order.{Before, PlaceBefore, place_order}
+use Rattle.ordered_names.proofs.Orders.{equal_names}
+use Rattle.mj_answer.proofs.Orders.{code_injective}
 
 pub ascends : {X : Type 0} (cmp : X → X → Ordering) (B : X → X → Type 0) → ((x y : X) → cmp x y ≡ Less → B x y) → (xs : List X) → IsStrictlySortedBy cmp xs → IsAscendingBy B xs
 unfolding IsStrictlySortedBy

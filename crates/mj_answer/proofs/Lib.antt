@@ -1,4 +1,3 @@
-pub mod Alike
 pub mod Orders
 pub mod Compared
 pub mod Searches

@@ -16,8 +16,8 @@ use Rattle.std.proofs.lemmas.List.Folds.{find_at}
 use Rattle.std.proofs.lemmas.Option.{slice_get_past, slice_get_read}
 use Rattle.std.proofs.lemmas.Bool.{cases_order}
 use Rattle.std.proofs.lemmas.Bool.Decides.{nat_tests}
-use Rattle.mj_answer.specs.Order.{NameBefore, IsAscendingBy, IsAscendingByName}
-use Rattle.mj_answer.proofs.Orders.{equal_names}
+use Rattle.ordered_names.specs.Order.{NameBefore, IsAscendingBy, IsAscendingByName}
+use Rattle.ordered_names.proofs.Orders.{equal_names}
 
 -- an earlier name compares no higher
 name_rises : (m n k : List ℕ) → NameBefore m n → ordering_index (slice_cmp nat_cmp m k) ≤ ordering_index (slice_cmp nat_cmp n k)

@@ -1,18 +1,12 @@
--- The order of names, of places and of diagnostics, and lists in ascending order.
-use Rattle.std.specs.Prelude.{◌≡◌, ℕ, ◌<◌, ◌↔◌, ◌⊎◌, List, [], ◌∷◌, Contains}
+-- The order of places and of diagnostics, and answers in ascending order.
+use Rattle.std.specs.Prelude.{◌≡◌, ℕ, ◌<◌, ◌⊎◌, List, []}
 use Rattle.std.specs.List.{AllByRecursion}
-use Rattle.std.specs.Ordering.{nat_cmp}
-use Rattle.std.specs.Cmp.Lexicographic.{slice_cmp}
-use Rattle.std.specs.declared.cmp.Ordering.TheVariants.{Less}
+use Rattle.ordered_names.specs.Order.{NameBefore, IsAscendingBy, IsAscendingByName}
 use Rattle.mj_tree.specs.declared.place.Place.{Place}
 use Rattle.mj_tree.specs.declared.place.Place.TheVariants.{Project, File, ClassOf, Class, Field, Method, Inside}
 use Rattle.mj_answer.specs.declared.diagnostic.Diagnostic.{Diagnostic}
 use Rattle.mj_answer.specs.Codes.{code_number}
 use Rattle.mj_answer.specs.AnswerValues.{ClassTableValue, ClassAnswerValue, AnswerValue}
-
--- names are ordered by their bytes
-abbrev pub NameBefore : List ℕ → List ℕ → Type 0
-NameBefore m n = slice_cmp nat_cmp m n ≡ Less
 
 -- the kinds of places, in their order
 abbrev pub place_order : Place → ℕ
@@ -54,17 +48,8 @@ abbrev pub Before : Diagnostic → Diagnostic → Type 0
 Before d e =
     PlaceBefore d.place e.place ⊎ ((d.place ≡ e.place) × (code_number d.code < code_number e.code))
 
--- each comes before all later ones
-abbrev pub IsAscendingBy : {X : Type 0} → (X → X → Type 0) → List X → Type 0
-IsAscendingBy B [] = Unit {0}
-IsAscendingBy B (x ∷ xs) = AllByRecursion (B x) xs × IsAscendingBy B xs
-
 abbrev pub IsAscending : List Diagnostic → Type 0
 IsAscending faults = IsAscendingBy Before faults
-
--- ascending by the names that the elements have
-abbrev pub IsAscendingByName : {X : Type 0} → (X → List ℕ) → List X → Type 0
-IsAscendingByName name_of xs = IsAscendingBy (λ x y. NameBefore (name_of x) (name_of y)) xs
 
 abbrev pub IsTableInOrder : ClassTableValue → Type 0
 IsTableInOrder table =
@@ -78,18 +63,3 @@ pub record IsAnswerInOrder (answer : AnswerValue) : Type 0 where
   pub faults : IsAscending answer.faults
   pub classes : IsAscendingByName (λ class. class.name) answer.classes
   pub each : AllByRecursion IsClassInOrder answer.classes
-
--- of two that differ, exactly one comes before the other, and the order is transitive
-pub record IsStrictTotalOrder {X : Type 0} (B : X → X → Type 0) : Type 0 where
-  pub irreflexive : (x : X) → B x x → ⊥
-  pub transitive : (x y z : X) → B x y → B y z → B x z
-  pub total : (x y : X) → B x y ⊎ ((x ≡ y) ⊎ B y x)
-
--- ascending lists with the same elements are equal
-abbrev pub OneList : (X : Type 0) → (X → X → Type 0) → Type 0
-OneList X B =
-    (xs ys : List X) → IsAscendingBy B xs → IsAscendingBy B ys
-    → ((x : X) → Contains xs x ↔ Contains ys x) → xs ≡ ys
-
-abbrev pub OneListByName : (X : Type 0) → (X → List ℕ) → Type 0
-OneListByName X name_of = OneList X (λ x y. NameBefore (name_of x) (name_of y))

@@ -5,7 +5,8 @@ ghost use Rattle.mj_answer.specs.declared.diagnostic.Diagnostic.{Diagnostic};
 ghost use Rattle.mj_answer.specs.declared.table.FieldRow.{FieldRow};
 ghost use Rattle.mj_answer.specs.Codes.{code_number, code_of};
 ghost use Rattle.mj_answer.specs.AnswerValues.{MethodRowValue, ClassAnswerValue};
-ghost use Rattle.mj_answer.specs.Order.{NameBefore, PlaceBefore, Before, IsStrictTotalOrder, OneList, OneListByName};
+ghost use Rattle.ordered_names.specs.Order.{NameBefore, IsStrictTotalOrder, OneList, OneListByName};
+ghost use Rattle.mj_answer.specs.Order.{PlaceBefore, Before};
 
 /// A code is the one with its number.
 pub fn code_numbers()
@@ -14,16 +15,14 @@ pub fn code_numbers()
         → code_number code ≡ number }
 {}
 
-/// Names, places and diagnostics are in strict total orders.
+/// Places and diagnostics are in strict total orders.
 pub fn strict_total_orders()
-    ensures names { IsStrictTotalOrder NameBefore }
     ensures places { IsStrictTotalOrder PlaceBefore }
     ensures faults { IsStrictTotalOrder Before }
 {}
 
 /// Ascending lists with the same elements are equal.
 pub fn one_list()
-    ensures names { OneList (List ℕ) NameBefore }
     ensures faults { OneList Diagnostic Before }
     ensures fields { OneListByName FieldRow (λ row. row.name) }
     ensures methods { OneListByName MethodRowValue (λ row. row.name) }

@@ -2,10 +2,10 @@
 ghost use Rattle.std.specs.Prelude.{◌≡◌, ℕ, List, position, find};
 ghost use Rattle.std.specs.Option.{option_copied};
 ghost use Rattle.std.specs.Str.{bytes_eq};
-ghost use Rattle.mj_answer.specs.Order.{IsAscendingByName};
+ghost use Rattle.ordered_names.specs.Order.{IsAscendingByName};
 
 use crate::table::{ClassAnswer, FieldRow, MethodRow};
-use mj_lexer::Name;
+use ordered_names::Name;
 
 /// What has a name.
 pub trait Named {

@@ -2,10 +2,11 @@
 ghost use Rattle.std.specs.Prelude.{◌≡◌, ◌↔◌, ℕ, List, true, Contains};
 ghost use Rattle.std.specs.List.Sorted.{IsStrictlySortedBy};
 ghost use Rattle.mj_answer.specs.declared.diagnostic.Diagnostic.{Diagnostic};
-ghost use Rattle.mj_answer.specs.Order.{NameBefore, IsAscending, IsAscendingBy};
+ghost use Rattle.ordered_names.specs.Order.{NameBefore, IsAscendingBy};
+ghost use Rattle.mj_answer.specs.Order.{IsAscending};
 
 use crate::diagnostic::Diagnostic;
-use mj_lexer::Name;
+use ordered_names::Name;
 
 /// The same elements, each once, in ascending order.
 pub fn ascending<T: Ord + Drop>(items: Vec<T>) -> Vec<T>

@@ -2,8 +2,8 @@
 ghost use Rattle.std.specs.Prelude.{◌≡◌, IfOk};
 
 use crate::diagnostic::Diagnostic;
-use mj_lexer::Name;
 use mj_tree::{Ty, copy_types};
+use ordered_names::Name;
 use std::alloc::{AllocError, Global};
 use std::marker::Model;
 

@@ -8,8 +8,8 @@ ghost use Rattle.mj_classes.specs.Classes.{end_view};
 ghost use Rattle.mj_classes.specs.Walks.{IsFirstPlace, IsChainAt, IsTurn, IsEndAt, Stretch, LeadsUp, declaring, straight_end};
 
 use crate::declarations::Declarations;
-use mj_lexer::Name;
 use mj_members::ClassRef;
+use ordered_names::Name;
 use std::alloc::{AllocError, Global};
 
 /// How a chain ends.

@@ -12,9 +12,9 @@ ghost use Rattle.mj_classes.specs.Classes.{files_view};
 ghost use Rattle.mj_classes.specs.Walks.{AreStepsUp, AreTurns, AreNearest, IsTurn, IsNearestAt};
 
 use crate::steps::{ends, turns};
-use mj_lexer::Name;
 use mj_members::{AnyClassTree, ClassRef};
 use mj_tree::{ClassTree, FileTree};
+use ordered_names::Name;
 use std::alloc::{AllocError, Global};
 use std::collections::BTreeMap;
 

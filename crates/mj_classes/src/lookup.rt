@@ -3,7 +3,7 @@ ghost use Rattle.std.specs.Prelude.{◌≡◌};
 ghost use Rattle.mj_classes.specs.Chains.{chain_of, chain_names, is_in};
 
 use crate::declarations::Declarations;
-use mj_lexer::Name;
+use ordered_names::Name;
 
 impl<'a> Declarations<'a> {
     ghost use Rattle.mj_classes.specs.Index.{declared_in};

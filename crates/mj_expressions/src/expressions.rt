@@ -13,8 +13,9 @@ ghost use Rattle.mj_expressions.specs.ExpressionReading.{close, object_at, new_a
 use crate::fault::ParseFault;
 use crate::nodes;
 use crate::tokens::{expect, expect_name, expect_two, has, kind, says};
-use mj_lexer::{Name, Terminal, Token, TokenKind};
+use mj_lexer::{Terminal, Token, TokenKind};
 use mj_tree::{Exp, Operator};
+use ordered_names::Name;
 use std::alloc::Global;
 
 /// The tier of any expression.

@@ -3,8 +3,8 @@ ghost use Rattle.std.specs.Prelude.{◌≡◌, IfOk};
 ghost use Rattle.mj_tree.specs.Trees as trees;
 ghost use Rattle.mj_tree.specs.Views.{exp_view, exps_view};
 
-use mj_lexer::Name;
 use mj_tree::{Exp, Operator};
+use ordered_names::Name;
 use std::alloc::{AllocError, Global};
 
 pub fn binary(

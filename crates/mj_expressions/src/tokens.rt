@@ -4,7 +4,8 @@ ghost use Rattle.mj_expressions.specs.Tokens.{same_terminal, kind_at, has, name_
 ghost use Rattle.mj_expressions.specs.declared.fault.ParseFault.TheVariants.{NotAFile};
 
 use crate::fault::ParseFault;
-use mj_lexer::{Name, Terminal, Token, TokenKind};
+use mj_lexer::{Terminal, Token, TokenKind};
+use ordered_names::Name;
 
 /// What was read, and the place after it.
 #[derive(Drop)]

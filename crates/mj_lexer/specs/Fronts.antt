@@ -7,7 +7,8 @@ use Rattle.mj_lexer.specs.declared.token.Terminal.TheVariants.{And}
 use Rattle.mj_lexer.specs.declared.front.Problem.TheVariants as problems
 use Rattle.mj_lexer.specs.declared.front.Front.{Front}
 use Rattle.mj_lexer.specs.declared.front.Front.TheVariants.{Nothing, Blank, Word, Wrong}
-use Rattle.mj_lexer.specs.Bytes.{is_white, is_letter, is_digit, is_name_byte, is_line_byte, literal_value, most_name_bytes, opens, closes}
+use Rattle.ordered_names.specs.Names.{most_name_bytes}
+use Rattle.mj_lexer.specs.Bytes.{is_white, is_letter, is_digit, is_name_byte, is_line_byte, literal_value, opens, closes}
 use Rattle.mj_lexer.specs.Words.{symbol_of, kind_of_word}
 
 -- the text behind the end of a comment at this depth; read two bytes at a time

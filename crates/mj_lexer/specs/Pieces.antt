@@ -9,7 +9,8 @@ use Rattle.mj_lexer.specs.declared.token.Terminal.{Terminal}
 use Rattle.mj_lexer.specs.declared.front.Problem.TheVariants as problems
 use Rattle.mj_lexer.specs.declared.front.Front.{Front}
 use Rattle.mj_lexer.specs.declared.front.Front.TheVariants.{Nothing, Blank, Word, Wrong}
-use Rattle.mj_lexer.specs.Bytes.{is_white, is_letter, is_digit, is_name_byte, is_line_byte, literal_value, most_name_bytes}
+use Rattle.ordered_names.specs.Names.{most_name_bytes}
+use Rattle.mj_lexer.specs.Bytes.{is_white, is_letter, is_digit, is_name_byte, is_line_byte, literal_value}
 use Rattle.mj_lexer.specs.Words.{text_of}
 use Rattle.mj_lexer.specs.Fronts.{after_comment}
 

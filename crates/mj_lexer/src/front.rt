@@ -2,12 +2,13 @@
 ghost use Rattle.std.specs.Prelude.{◌≡◌, ◌+◌, ◌-◌, ◌*◌, ◌<◌, ◌≤◌, ℕ, List, length, drop, take, min, IfOk, IsTrue, ◌↔◌, Option, Some, None, MatchOption};
 ghost use Rattle.std.specs.List.{prefix_len};
 ghost use Rattle.std.specs.Str.{IsAscii};
-ghost use Rattle.mj_lexer.specs.Bytes.{is_white, is_letter, is_digit, is_name_byte, is_line_byte, literal_value, most_name_bytes, opens, closes};
+ghost use Rattle.ordered_names.specs.Names.{most_name_bytes};
+ghost use Rattle.mj_lexer.specs.Bytes.{is_white, is_letter, is_digit, is_name_byte, is_line_byte, literal_value, opens, closes};
 ghost use Rattle.mj_lexer.specs.Words.{symbol_of, reserved_of, kind_of_word};
 ghost use Rattle.mj_lexer.specs.Fronts.{after_comment, slash_front, front_of, IsWithin};
 
-use crate::name::Name;
 use crate::token::{Terminal, TokenKind};
+use ordered_names::Name;
 use std::alloc::{AllocError, Global};
 use std::str;
 

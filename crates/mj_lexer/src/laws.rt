@@ -1,7 +1,5 @@
 //! Laws of the definitions that contracts cite.
-ghost use Rattle.std.specs.Prelude.{◌≡◌, ◌↔◌, ℕ, List, Some, IsSome, IsNone, IsTrue};
-ghost use Rattle.std.specs.Cmp.{IsTotalOrder};
-ghost use Rattle.std.specs.declared.cmp.Ordering.TheVariants.{Equal};
+ghost use Rattle.std.specs.Prelude.{◌≡◌, ◌↔◌, List, Some, IsSome, IsNone};
 ghost use Rattle.mj_lexer.specs.declared.token.Token.{Token};
 ghost use Rattle.mj_lexer.specs.declared.front.Front.{Front};
 ghost use Rattle.mj_lexer.specs.declared.lexer.LexFault.{LexFault};
@@ -9,8 +7,6 @@ ghost use Rattle.mj_lexer.specs.Fronts.{front_of};
 ghost use Rattle.mj_lexer.specs.Pieces.{StandsInFront};
 ghost use Rattle.mj_lexer.specs.Lexes.{Lexes, Breaks};
 ghost use Rattle.mj_lexer.specs.Lexing.{tokens_of, lex_fault_of};
-
-use crate::name::Name;
 
 /// The tokens or the error that are computed are those that the text is cut into, or breaks by; each text has one or
 /// the other.
@@ -25,11 +21,4 @@ pub fn lexing_laws(text: &[u8])
 pub fn front_laws(text: &[u8])
     ensures stands { StandsInFront text.now (front_of text.now) }
     ensures only { (front : Front) → StandsInFront text.now front → front ≡ front_of text.now }
-{}
-
-/// Names are equal where their texts are; their order is total, and ties only equal names.
-pub fn name_laws()
-    ensures equality { (m n : List ℕ) → IsTrue (⟦<Name as PartialEq>⟧.eq m n) ↔ (m ≡ n) }
-    ensures order { IsTotalOrder ⟦<Name as Ord>⟧.cmp }
-    ensures ties { (m n : List ℕ) → ⟦<Name as Ord>⟧.cmp m n ≡ Equal → m ≡ n }
 {}

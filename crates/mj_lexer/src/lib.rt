@@ -4,13 +4,11 @@
 mod front;
 mod laws;
 mod lexer;
-mod name;
 mod place;
 mod token;
 
 pub use front::{Front, GREATEST_LITERAL, Problem};
-pub use laws::{front_laws, lexing_laws, name_laws};
+pub use laws::{front_laws, lexing_laws};
 pub use lexer::{LexFault, lex};
-pub use name::Name;
 pub use place::line_col;
 pub use token::{Terminal, Token, TokenKind};

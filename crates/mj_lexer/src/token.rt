@@ -1,5 +1,5 @@
 //! Tokens.
-use crate::name::Name;
+use ordered_names::Name;
 
 /// A symbol or a reserved word: a token that has one text.
 #[derive(Clone, Copy, Debug, PartialEq, Eq)]

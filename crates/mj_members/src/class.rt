@@ -4,8 +4,8 @@ ghost use Rattle.mj_tree.specs.Views.{method_view};
 ghost use Rattle.mj_members.specs.Declarations.{has_members};
 ghost use Rattle.mj_members.specs.Classes.{class_ref_view};
 
-use mj_lexer::Name;
 use mj_tree::{ClassTree, Field, MainTree, MethodTree};
+use ordered_names::Name;
 
 /// The tree of a main class or of another class.
 #[derive(Clone, Copy)]

@@ -9,8 +9,8 @@ ghost use Rattle.mj_members.specs.Classes.{classes_view, class_ref_view, field_m
 
 use crate::class::ClassRef;
 use mj_answer::Named;
-use mj_lexer::Name;
 use mj_tree::{Field, MethodTree};
+use ordered_names::Name;
 use std::alloc::{AllocError, Global};
 use std::collections::BTreeMap;
 

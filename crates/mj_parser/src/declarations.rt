@@ -12,8 +12,9 @@ use crate::statements::statement;
 use mj_expressions::{
     ANY_TIER, ParseFault, Part, expect, expect_name, expect_two, followed, has, name, read,
 };
-use mj_lexer::{Name, Terminal, Token};
+use mj_lexer::{Terminal, Token};
 use mj_tree::{MOST_LEVELS, MethodTree, Stmt, Ty, Variable};
+use ordered_names::Name;
 use std::alloc::Global;
 
 /// A declared type.

@@ -13,8 +13,9 @@ use crate::statements::statement;
 use mj_expressions::{
     ParseFault, Part, expect, expect_name, expect_two, expect_word_and, followed_by_two, has, name,
 };
-use mj_lexer::{Name, Terminal, Token};
+use mj_lexer::{Terminal, Token};
 use mj_tree::{ClassTree, Field, FileTree, MOST_LEVELS, MainTree, MethodTree, Stmt};
+use ordered_names::Name;
 use std::alloc::Global;
 
 #[tactic(auto, unfolding(crate::specs::FileReading::field_at))]

@@ -3,8 +3,9 @@ ghost use Rattle.std.specs.Prelude.{◌≡◌, ◌<◌, ◌≤◌, ◌+◌, leng
 ghost use Rattle.mj_parser.specs.Locations.{all_of, existing, class_start, class_end, class_name, field_name, method_name, method_start, name_of_method, token_of};
 
 use mj_expressions::{has, name};
-use mj_lexer::{Name, Terminal, Token};
+use mj_lexer::{Terminal, Token};
 use mj_tree::Place;
+use ordered_names::Name;
 
 /// The place of the terminal with this number among those from `start` to before `end`.
 #[tactic(auto, using(crate::proofs::Locations::none_left, crate::proofs::Locations::here, crate::proofs::Locations::one_less, crate::proofs::Locations::passes))]

@@ -18,8 +18,9 @@ use mj_expressions::{
     ANY_TIER, ExpPart, ParseFault, Part, closed, expect, expect_name, expect_two, expect_word_and,
     followed, has, name, read, says,
 };
-use mj_lexer::{Name, Terminal, Token};
+use mj_lexer::{Terminal, Token};
 use mj_tree::Stmt;
+use ordered_names::Name;
 use std::alloc::Global;
 
 /// An expression between `if` or `while` and the statement.

@@ -5,8 +5,8 @@ ghost use Rattle.mj_phrases.specs.Steps.{Check, Proceeds, Aborts};
 ghost use Rattle.mj_phrases.specs.declared.asking.Stop.{Stop};
 ghost use Rattle.mj_phrases.specs.declared.asking.Stop.TheVariants.{OutOfMemory};
 
-use mj_lexer::Name;
 use mj_tree::Ty;
+use ordered_names::Name;
 use std::alloc::{AllocError, Global};
 
 /// Why a check ended early: an answer was refused, or memory ran out.

@@ -9,8 +9,8 @@ use crate::scope::Scope;
 use crate::types::{is_boolean, is_int, is_int_array};
 use crate::verdict::Verdict;
 use mj_answer::Code;
-use mj_lexer::Name;
 use mj_tree::{Operator, Ty};
+use ordered_names::Name;
 use std::alloc::{AllocError, Global};
 
 /// The greatest value of `int`.

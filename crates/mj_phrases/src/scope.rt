@@ -9,8 +9,8 @@ ghost use Rattle.mj_phrases.specs.Table.{local_of, main_scope, method_scope};
 
 use crate::verdict::Mistake;
 use mj_answer::Code;
-use mj_lexer::Name;
 use mj_tree::{MethodTree, Ty, Variable};
+use ordered_names::Name;
 use std::alloc::{AllocError, Global};
 use std::collections::BTreeMap;
 use std::marker::Model;

@@ -11,8 +11,8 @@ use crate::rows;
 use crate::scope::Scope;
 use crate::verdict::{Mistake, Verdict};
 use crate::walk::{check, name_type};
-use mj_lexer::Name;
 use mj_tree::Exp;
+use ordered_names::Name;
 use std::alloc::Global;
 
 /// The name that is assigned to, with its token and that of `=`.

@@ -11,8 +11,8 @@ use crate::asking::{Asking, Stop};
 use crate::rows;
 use crate::scope::Scope;
 use crate::verdict::{Mistake, Verdict};
-use mj_lexer::Name;
 use mj_tree::{Exp, Operator, Ty};
+use ordered_names::Name;
 use std::alloc::{AllocError, Global};
 
 /// Adds the mistake of a verdict, if it is one, and gives its type.

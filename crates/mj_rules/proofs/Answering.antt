@@ -4,20 +4,21 @@ use Rattle.std.specs.List.{cons_option}
 use Rattle.std.proofs.lemmas.List.Elements.{All-nil, All-cons}
 use Rattle.mj_tree.specs.Trees.{Name}
 use Rattle.mj_answer.specs.AnswerValues.{ClassAnswerValue, AnswerValue}
-use Rattle.mj_answer.specs.Order.{NameBefore, Before}
-use Rattle.mj_answer.proofs.Alike.{Contains-first, Contains-later}
+use Rattle.ordered_names.specs.Order.{NameBefore}
+use Rattle.mj_answer.specs.Order.{Before}
+use Rattle.ordered_names.proofs.Alike.{Contains-first, Contains-later}
 use Rattle.mj_members.specs.Declarations.{ClassDecl}
 use Rattle.mj_classes.specs.Declarations.{decl}
 use Rattle.mj_classes.specs.Laws.{ChainLaws, MemberLaws}
 use Rattle.mj_classes.proofs.Climb.{decl_name}
-use Rattle.mj_project.specs.Projects.{SourceFile}
+use Rattle.named_files.specs.Projects.{SourceFile}
 use Rattle.profiles.specs.declared.profile.Profile.{Profile}
 use Rattle.mj_rules.specs.Sentences.{classes_in}
 use Rattle.mj_rules.specs.Rules.{IsAnswerFor, Rules}
 use Rattle.mj_rules.specs.FaultLists.{project_faults, NamesFitIn, class_faults, class_names}
 use Rattle.mj_rules.specs.Answering.{set_of, name_order, fault_order, class_answer, rules_of}
 use Rattle.mj_rules.specs.Laws.{SentenceLaw, BodyFaultLaws}
-use Rattle.mj_project.proofs.Listed.{place_of, at_map}
+use Rattle.named_files.proofs.Listed.{place_of, at_map}
 use Rattle.mj_rules.proofs.RowLemmas.{finds_one}
 use Rattle.mj_rules.proofs.Sets.{names_compare, faults_compare, set_ascends, from_set, to_set}
 use Rattle.mj_rules.proofs.Composing.{class_answer as answer_of_class, class_answers, project_answer}

@@ -2,7 +2,7 @@
 use Rattle.std.proofs.Common.{◌≡◌, ℕ, ◌<◌, Bool, true, false, not, List, [], take, slice_get, Option, Some, None, is_none, option_map, Contains, refl, sym, ap, subst, ◌∙◌, inl, inr, true≢false, ◌↔◌}
 use Rattle.std.proofs.lemmas.List.Elements.{Contains-append_left, Contains-append_right, Contains-append_cases}
 use Rattle.std.proofs.lemmas.Bool.{not-true, false_from_ne_true}
-use Rattle.mj_answer.proofs.Alike.{Contains-first, nowhere}
+use Rattle.ordered_names.proofs.Alike.{Contains-first, nowhere}
 use Rattle.mj_tree.specs.Trees.{Name, Statement, Method}
 use Rattle.mj_tree.specs.declared.tree.Ty.{Ty}
 use Rattle.mj_tree.specs.declared.tree.Ty.TheVariants as types
@@ -19,14 +19,14 @@ use Rattle.mj_classes.specs.Members.{nearest, own_method}
 use Rattle.mj_classes.specs.Laws.{ChainLaws}
 use Rattle.mj_phrases.specs.declared.verdict.Mistake.{Mistake}
 use Rattle.mj_typing.specs.Bodies.{NamesFit, method_faults, main_faults}
-use Rattle.mj_project.specs.Repeats.{is_in, repeats}
+use Rattle.named_files.specs.Repeats.{is_in, repeats}
 use Rattle.profiles.specs.declared.profile.Profile.{Profile}
 use Rattle.mj_rules.specs.Worlds.{sig_of, world_of}
 use Rattle.mj_rules.specs.ClassFaults.{FaultOfClass, UndeclaredSuperclass, CyclicChain, RepeatedField, RepeatedMethod, OtherSignature, UndeclaredFieldType, InMethod, InMain, IsFirstMethod, main_word, main_of}
 use Rattle.mj_rules.specs.FaultLists.{fault, when_fault, each_numbered, superclass_faults, is_cycle, chain_faults, is_undeclared, field_faults, may_override, override_faults, inside, rest_of, nearest_sig, method_faults_of, body_faults_of, main_method_faults, field_names, method_names, declaration_faults, NamesFitIn, body_faults, class_faults}
 use Rattle.mj_rules.specs.Laws.{BodyFaultLaws}
-use Rattle.mj_project.proofs.Listed.{place_before, contains_before, contains_at, at_map, map_at, place_of}
-use Rattle.mj_project.proofs.RepeatLemmas.{Contains-is_in, is_in-Contains, repeats-at, flag_at}
+use Rattle.named_files.proofs.Listed.{place_before, contains_before, contains_at, at_map, map_at, place_of}
+use Rattle.named_files.proofs.RepeatLemmas.{Contains-is_in, is_in-Contains, repeats-at, flag_at}
 use Rattle.mj_rules.proofs.Numbered.{only, from_when, to_when, IsFlagged, from_all, to_all}
 use Rattle.mj_rules.proofs.MayOverride.{may_from, may_to}
 use Rattle.mj_rules.proofs.Overriding.{overridden_from, overridden_to}

@@ -3,18 +3,19 @@ use Rattle.std.proofs.Common.{◌≡◌, List, map, Some, All, Contains, sym, ap
 use Rattle.mj_tree.specs.Trees.{Name}
 use Rattle.mj_answer.specs.declared.diagnostic.Diagnostic.{Diagnostic}
 use Rattle.mj_answer.specs.AnswerValues.{ClassAnswerValue, AnswerValue}
-use Rattle.mj_answer.specs.Order.{NameBefore, IsAscendingBy, IsAscending}
+use Rattle.ordered_names.specs.Order.{NameBefore, IsAscendingBy}
+use Rattle.mj_answer.specs.Order.{IsAscending}
 use Rattle.mj_members.specs.Declarations.{ClassDecl}
 use Rattle.mj_classes.specs.Declarations.{decl}
 use Rattle.mj_classes.specs.Laws.{ChainLaws, MemberLaws}
-use Rattle.mj_project.specs.Projects.{SourceFile}
+use Rattle.named_files.specs.Projects.{SourceFile}
 use Rattle.profiles.specs.declared.profile.Profile.{Profile}
 use Rattle.mj_rules.specs.Sentences.{classes_in}
 use Rattle.mj_rules.specs.Tables.{table_of}
 use Rattle.mj_rules.specs.Rules.{IsTableOf, IsAnswerFor, AreClassAnswers, Rules}
 use Rattle.mj_rules.specs.FaultLists.{fault, project_faults, NamesFitIn, class_faults, class_names}
 use Rattle.mj_rules.specs.Laws.{SentenceLaw, BodyFaultLaws}
-use Rattle.mj_project.proofs.Listed.{contains_at, place_of, map_at}
+use Rattle.named_files.proofs.Listed.{contains_at, place_of, map_at}
 use Rattle.mj_rules.proofs.ProjectFaultLaws.{project_fault_law}
 use Rattle.mj_rules.proofs.ClassFaultLaws.{class_fault_law}
 use Rattle.mj_rules.proofs.TableLaws.{table_law, ascend_by_names}

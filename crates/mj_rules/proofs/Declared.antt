@@ -18,10 +18,10 @@ use Rattle.mj_parser.specs.FileReading.{tree_of}
 use Rattle.mj_parser.specs.MarkBounds.{VariableBelow, MethodMarksBelow, ClassMarksBelow, FileMarksBelow}
 use Rattle.mj_parser.proofs.FileFound.{file_found}
 use Rattle.mj_parser.proofs.Bounds.{marks_below}
-use Rattle.mj_answer.proofs.Alike.{nowhere, Contains-first, Contains-later, Contains-cases}
+use Rattle.ordered_names.proofs.Alike.{nowhere, Contains-first, Contains-later, Contains-cases}
 use Rattle.mj_members.specs.Declarations.{ClassDecl, main_decl, class_decl}
 use Rattle.mj_classes.specs.Declarations.{number_classes, main_first, classes_of, declared_from, decl}
-use Rattle.mj_project.specs.Projects.{SourceFile}
+use Rattle.named_files.specs.Projects.{SourceFile}
 use Rattle.mj_phrases.specs.Variables.{name_token}
 use Rattle.mj_typing.specs.Bodies.{NamesFit}
 use Rattle.mj_rules.specs.Sentences.{file_of, trees_of, classes_in}

@@ -5,7 +5,7 @@ use Rattle.std.proofs.lemmas.List.Elements.{Contains-append_left, Contains-appen
 use Rattle.mj_tree.specs.declared.place.Place.{Place}
 use Rattle.mj_answer.specs.declared.code.Code.{Code}
 use Rattle.mj_answer.specs.declared.diagnostic.Diagnostic.{Diagnostic}
-use Rattle.mj_answer.proofs.Alike.{Contains-cases, Contains-first, nowhere}
+use Rattle.ordered_names.proofs.Alike.{Contains-cases, Contains-first, nowhere}
 use Rattle.mj_rules.specs.FaultLists.{fault, when_fault, each_numbered}
 
 pub only : {X : Type 0} (x y : X) → Contains (x ∷ []) y → x ≡ y

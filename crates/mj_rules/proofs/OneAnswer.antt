@@ -8,18 +8,20 @@ use Rattle.mj_answer.specs.declared.code.Code.{Code}
 use Rattle.mj_answer.specs.declared.diagnostic.Diagnostic.{Diagnostic}
 use Rattle.mj_answer.specs.declared.table.FieldRow.{FieldRow}
 use Rattle.mj_answer.specs.AnswerValues.{MethodRowValue, ClassTableValue, ClassAnswerValue, AnswerValue}
-use Rattle.mj_answer.specs.Order.{NameBefore, Before}
-use Rattle.mj_answer.proofs.Orders.{names, faults}
-use Rattle.mj_answer.proofs.Alike.{one_list_by}
+use Rattle.ordered_names.specs.Order.{NameBefore}
+use Rattle.mj_answer.specs.Order.{Before}
+use Rattle.ordered_names.proofs.Orders.{names}
+use Rattle.mj_answer.proofs.Orders.{faults}
+use Rattle.ordered_names.proofs.Alike.{one_list_by}
 use Rattle.mj_members.specs.Declarations.{ClassDecl}
 use Rattle.mj_classes.specs.Declarations.{decl}
 use Rattle.mj_classes.proofs.Climb.{decl_name}
-use Rattle.mj_project.specs.Projects.{SourceFile}
+use Rattle.named_files.specs.Projects.{SourceFile}
 use Rattle.profiles.specs.declared.profile.Profile.{Profile}
 use Rattle.mj_rules.specs.Sentences.{classes_in}
 use Rattle.mj_rules.specs.ClassFaults.{FaultOfClass}
 use Rattle.mj_rules.specs.Rules.{AreTheFaults, IsTableOf, IsAnswerFor, Rules}
-use Rattle.mj_project.proofs.Listed.{contains_at, place_of, at_map}
+use Rattle.named_files.proofs.Listed.{contains_at, place_of, at_map}
 use Rattle.mj_rules.proofs.RowLemmas.{found_stands}
 
 -- one list has just these diagnostics

@@ -2,7 +2,7 @@
 use Rattle.std.proofs.Common.{◌≡◌, List, [], ◌∷◌, ◌++◌, drop, Option, Some, None, Contains, refl, sym, ap, subst, ◌∙◌, inl, inr}
 use Rattle.std.specs.List.{filter_map, cons_option}
 use Rattle.std.proofs.lemmas.Option.{none-some, same_Some}
-use Rattle.mj_answer.proofs.Alike.{Contains-cases, Contains-first, Contains-later, nowhere}
+use Rattle.ordered_names.proofs.Alike.{Contains-cases, Contains-first, Contains-later, nowhere}
 use Rattle.mj_tree.specs.Trees.{Name, Method}
 use Rattle.mj_members.specs.Declarations.{ClassDecl}
 use Rattle.mj_classes.specs.Declarations.{decl}

@@ -11,16 +11,16 @@ use Rattle.mj_tree.specs.declared.place.Place.TheVariants as places
 use Rattle.mj_answer.specs.declared.code.Code.{Code}
 use Rattle.mj_answer.specs.declared.code.Code.TheVariants.{E101, E102, E103, E104}
 use Rattle.mj_answer.specs.declared.diagnostic.Diagnostic.{Diagnostic}
-use Rattle.mj_answer.proofs.Alike.{Contains-first, nowhere}
+use Rattle.ordered_names.proofs.Alike.{Contains-first, nowhere}
 use Rattle.mj_members.specs.Declarations.{ClassDecl}
-use Rattle.mj_project.specs.Projects.{SourceFile}
-use Rattle.mj_project.specs.Repeats.{is_in, repeats}
+use Rattle.named_files.specs.Projects.{SourceFile}
+use Rattle.named_files.specs.Repeats.{is_in, repeats}
 use Rattle.mj_rules.specs.Sentences.{IsSentence, file_of, classes_in}
 use Rattle.mj_rules.specs.ProjectFaults.{FaultOfProject, NoSentence, NoMain, SecondMain, RepeatedClass, HasMain}
 use Rattle.mj_rules.specs.FaultLists.{fault, when_fault, each_numbered, has_main, any_main, file_faults, files_faults, repeated_class, repeated_class_faults, class_names, project_faults}
 use Rattle.mj_rules.specs.Laws.{SentenceLaw, ProjectFaultLaw}
-use Rattle.mj_project.proofs.Listed.{contains_at, place_before, contains_before, at_map, map_at, place_of}
-use Rattle.mj_project.proofs.RepeatLemmas.{Contains-is_in, is_in-Contains, repeats-at, flag_at}
+use Rattle.named_files.proofs.Listed.{contains_at, place_before, contains_before, at_map, map_at, place_of}
+use Rattle.named_files.proofs.RepeatLemmas.{Contains-is_in, is_in-Contains, repeats-at, flag_at}
 use Rattle.mj_rules.proofs.Numbered.{only, from_when, to_when, IsFlagged, from_all, to_all}
 
 or_false : (b : Bool) → b ≡ (b || false)

@@ -4,7 +4,7 @@ use Rattle.std.proofs.lemmas.Option.{none-some, same_Some}
 use Rattle.std.proofs.lemmas.Slice.Eq.{bytes_eq-Decides}
 use Rattle.mj_tree.specs.Trees.{Name, Method}
 use Rattle.mj_answer.specs.AnswerValues.{MethodRowValue}
-use Rattle.mj_answer.proofs.Alike.{Contains-first, Contains-later}
+use Rattle.ordered_names.proofs.Alike.{Contains-first, Contains-later}
 use Rattle.mj_members.specs.Declarations.{ClassDecl}
 use Rattle.mj_classes.specs.Members.{nearest, or_farther, own_method}
 use Rattle.mj_members.specs.Tables.{methods_along}
@@ -14,7 +14,7 @@ use Rattle.mj_rules.specs.FaultLists.{nearest_sig}
 use Rattle.mj_tree.proofs.Positions.{find-map}
 use Rattle.mj_rules.specs.Worlds.{sig_of}
 use Rattle.mj_rules.specs.Tables.{method_row, row_sig, sig_in}
-use Rattle.mj_project.proofs.Listed.{place_of}
+use Rattle.named_files.proofs.Listed.{place_of}
 use Rattle.mj_rules.proofs.TableLaws.{found_name}
 
 -- the table of some classes has the nearest method of each name

@@ -6,9 +6,11 @@ use Rattle.std.proofs.lemmas.Cmp.{nat_list_cmp_total, tied_itself}
 use Rattle.std.proofs.lemmas.Bool.Decides.{nat_tests}
 use Rattle.mj_answer.specs.declared.diagnostic.Diagnostic.{Diagnostic}
 use Rattle.mj_answer.specs.Codes.{code_number}
-use Rattle.mj_answer.specs.Order.{IsAscendingBy, IsStrictTotalOrder, NameBefore, Before, place_order, name_in, number_in}
-use Rattle.mj_answer.proofs.Alike.{Contains-cases, Contains-first, Contains-later, nowhere}
-use Rattle.mj_answer.proofs.Orders.{names, faults}
+use Rattle.ordered_names.specs.Order.{IsAscendingBy, IsStrictTotalOrder, NameBefore}
+use Rattle.mj_answer.specs.Order.{Before, place_order, name_in, number_in}
+use Rattle.ordered_names.proofs.Alike.{Contains-cases, Contains-first, Contains-later, nowhere}
+use Rattle.ordered_names.proofs.Orders.{names}
+use Rattle.mj_answer.proofs.Orders.{faults}
 use Rattle.mj_rules.specs.Answering.{with_element, set_of, name_order, fault_order}
 
 -- what a comparison tells

@@ -17,12 +17,12 @@ use Rattle.mj_tree.specs.declared.place.Place.TheVariants.{Project, ClassOf}
 use Rattle.mj_tree.proofs.Positions.{read_at}
 use Rattle.mj_answer.specs.declared.code.Code.TheVariants.{E102, E104}
 use Rattle.mj_answer.specs.declared.diagnostic.Diagnostic.{Diagnostic}
-use Rattle.mj_project.specs.Projects.{SourceFile, source_view, sources_view}
-use Rattle.mj_project.specs.Repeats.{repeats}
+use Rattle.named_files.specs.Projects.{SourceFile, source_view, sources_view}
+use Rattle.named_files.specs.Repeats.{repeats}
 use Rattle.mj_rules.specs.Sentences.{file_of, trees_of}
 use Rattle.mj_rules.specs.FaultLists.{fault, when_fault, repeated_class, each_numbered, has_main, any_main, file_faults, files_faults, same_type, same_types}
-use Rattle.mj_project.proofs.Listed.{at_map, map_at}
-use Rattle.mj_project.proofs.RepeatLemmas.{length-repeats}
+use Rattle.named_files.proofs.Listed.{at_map, map_at}
+use Rattle.named_files.proofs.RepeatLemmas.{length-repeats}
 
 pub drop_at : {X : Type 0} (xs : List X) (n : ℕ) (x : X) → slice_get xs n ≡ Some x → drop n xs ≡ x ∷ drop (n + 1) xs
 drop_at [] n x e = absurd (none-some x e)

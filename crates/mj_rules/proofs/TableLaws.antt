@@ -10,7 +10,7 @@ use Rattle.mj_tree.specs.declared.tree.Ty.{Ty}
 use Rattle.mj_tree.specs.declared.tree.Field.{Field}
 use Rattle.mj_answer.specs.declared.table.FieldRow.{FieldRow}
 use Rattle.mj_answer.specs.AnswerValues.{MethodRowValue}
-use Rattle.mj_answer.specs.Order.{NameBefore, IsAscendingBy, IsAscendingByName}
+use Rattle.ordered_names.specs.Order.{NameBefore, IsAscendingBy, IsAscendingByName}
 use Rattle.mj_answer.proofs.Compared.{ascends}
 use Rattle.mj_members.specs.Declarations.{ClassDecl}
 use Rattle.mj_classes.specs.Members.{FieldOf, MethodOf}
@@ -18,7 +18,7 @@ use Rattle.mj_classes.specs.Tables.{field_table, method_table}
 use Rattle.mj_classes.specs.Laws.{MemberLaws}
 use Rattle.mj_rules.specs.Rules.{IsFieldOf, IsMethodOf, IsTableOf}
 use Rattle.mj_rules.specs.Tables.{field_row, method_row, table_of}
-use Rattle.mj_project.proofs.Listed.{contains_at, place_of, at_map, map_at}
+use Rattle.named_files.proofs.Listed.{contains_at, place_of, at_map, map_at}
 
 -- what is found by a name has it
 pub found_name : {A : Type 0} (name : A → Name) (x : Name) (as' : List A) (a : A) → find (λ (b : A). bytes_eq (name b) x) as' ≡ Some a → name a ≡ x

@@ -11,7 +11,7 @@ use Rattle.mj_classes.specs.Members.{FieldOf, MethodOf, field_of, method_of}
 use Rattle.mj_phrases.specs.Inquiries.{Sig}
 use Rattle.mj_rules.specs.Worlds.{sig_of, world_of}
 use Rattle.mj_rules.specs.Laws.{WorldLaw}
-use Rattle.mj_project.proofs.RepeatLemmas.{Contains-is_in, is_in-Contains}
+use Rattle.named_files.proofs.RepeatLemmas.{Contains-is_in, is_in-Contains}
 use Rattle.mj_rules.proofs.LowerLaws.{chain_laws, member_laws}
 use Rattle.mj_rules.proofs.Acceptance.{acceptance}
 

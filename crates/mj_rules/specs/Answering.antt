@@ -10,7 +10,7 @@ use Rattle.mj_answer.specs.Codes.{code_number}
 use Rattle.mj_answer.specs.Order.{place_order, name_in, number_in}
 use Rattle.mj_members.specs.Declarations.{ClassDecl}
 use Rattle.mj_classes.specs.Declarations.{decl}
-use Rattle.mj_project.specs.Projects.{SourceFile}
+use Rattle.named_files.specs.Projects.{SourceFile}
 use Rattle.profiles.specs.declared.profile.Profile.{Profile}
 use Rattle.mj_rules.specs.Sentences.{classes_in}
 use Rattle.mj_rules.specs.Tables.{table_of}

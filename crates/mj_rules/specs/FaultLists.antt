@@ -20,8 +20,8 @@ use Rattle.mj_phrases.specs.declared.verdict.Mistake.{Mistake}
 use Rattle.mj_phrases.specs.Inquiries.{Sig, conclusion}
 use Rattle.mj_phrases.specs.Table.{is_accepted}
 use Rattle.mj_typing.specs.Bodies.{NamesFit, method_faults, main_faults}
-use Rattle.mj_project.specs.Projects.{SourceFile}
-use Rattle.mj_project.specs.Repeats.{repeats}
+use Rattle.named_files.specs.Projects.{SourceFile}
+use Rattle.named_files.specs.Repeats.{repeats}
 use Rattle.profiles.specs.declared.profile.Profile.{Profile}
 use Rattle.profiles.specs.declared.profile.Profile.TheVariants.{One, Two}
 use Rattle.mj_rules.specs.Sentences.{file_of, classes_in}

@@ -9,7 +9,7 @@ use Rattle.mj_classes.specs.Declarations.{decl}
 use Rattle.mj_phrases.specs.declared.verdict.Mistake.{Mistake}
 use Rattle.mj_phrases.specs.Inquiries.{World}
 use Rattle.mj_typing.specs.Bodies.{MethodFault, MainFault, NamesFit, method_faults, main_faults}
-use Rattle.mj_project.specs.Projects.{SourceFile}
+use Rattle.named_files.specs.Projects.{SourceFile}
 use Rattle.profiles.specs.declared.profile.Profile.{Profile}
 use Rattle.mj_rules.specs.Sentences.{IsSentence, file_of, classes_in}
 use Rattle.mj_rules.specs.ProjectFaults.{FaultOfProject}

@@ -6,7 +6,7 @@ use Rattle.mj_tree.specs.declared.place.Place.TheVariants as places
 use Rattle.mj_answer.specs.declared.code.Code.{Code}
 use Rattle.mj_answer.specs.declared.code.Code.TheVariants.{E101, E102, E103, E104}
 use Rattle.mj_members.specs.Declarations.{ClassDecl}
-use Rattle.mj_project.specs.Projects.{SourceFile}
+use Rattle.named_files.specs.Projects.{SourceFile}
 use Rattle.mj_rules.specs.Sentences.{IsSentence, classes_in}
 
 -- the file with this number is a sentence that has a main class

@@ -7,11 +7,12 @@ use Rattle.mj_answer.specs.declared.code.Code.{Code}
 use Rattle.mj_answer.specs.declared.diagnostic.Diagnostic.{Diagnostic}
 use Rattle.mj_answer.specs.declared.table.FieldRow.{FieldRow}
 use Rattle.mj_answer.specs.AnswerValues.{MethodRowValue, ClassTableValue, ClassAnswerValue, AnswerValue}
-use Rattle.mj_answer.specs.Order.{IsAscending, IsAscendingByName}
+use Rattle.ordered_names.specs.Order.{IsAscendingByName}
+use Rattle.mj_answer.specs.Order.{IsAscending}
 use Rattle.mj_members.specs.Declarations.{ClassDecl}
 use Rattle.mj_classes.specs.Declarations.{decl}
 use Rattle.mj_classes.specs.Members.{FieldOf, MethodOf}
-use Rattle.mj_project.specs.Projects.{SourceFile}
+use Rattle.named_files.specs.Projects.{SourceFile}
 use Rattle.profiles.specs.declared.profile.Profile.{Profile}
 use Rattle.mj_rules.specs.Sentences.{classes_in}
 use Rattle.mj_rules.specs.ProjectFaults.{FaultOfProject}

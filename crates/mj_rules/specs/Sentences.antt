@@ -8,7 +8,7 @@ use Rattle.mj_parser.specs.Declarations.{Derives}
 use Rattle.mj_parser.specs.FileReading.{tree_of}
 use Rattle.mj_members.specs.Declarations.{ClassDecl}
 use Rattle.mj_classes.specs.Declarations.{declarations}
-use Rattle.mj_project.specs.Projects.{SourceFile}
+use Rattle.named_files.specs.Projects.{SourceFile}
 
 -- The bytes are cut into tokens, and the grammar derives these.
 pub record IsSentence (bytes : List ℕ) (tree : File) : Type 0 where

@@ -4,7 +4,7 @@ ghost use Rattle.mj_tree.specs.Views.{method_view};
 ghost use Rattle.mj_members.specs.Classes.{class_ref_view};
 ghost use Rattle.mj_classes.specs.Index.{declared_in};
 ghost use Rattle.mj_typing.specs.Bodies.{method_faults};
-ghost use Rattle.mj_project.specs.Repeats.{repeats};
+ghost use Rattle.named_files.specs.Repeats.{repeats};
 ghost use Rattle.mj_rules.specs.Worlds.{world_of};
 ghost use Rattle.mj_rules.specs.FaultLists.{each_numbered, inside, body_faults_of, main_method_faults, body_faults};
 
@@ -12,11 +12,11 @@ use crate::declaration_faults::repeated_methods;
 use crate::world::World;
 use mj_answer::Diagnostic;
 use mj_classes::{AnyClassTree, ClassRef};
-use mj_lexer::Name;
 use mj_phrases::Mistake;
 use mj_tables::MemberTables;
 use mj_tree::{MethodTree, Place};
 use mj_typing::{main_mistakes, method_mistakes};
+use ordered_names::Name;
 use std::alloc::{AllocError, Global};
 
 /// Adds mistakes in the body of a method.

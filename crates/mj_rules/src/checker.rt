@@ -1,6 +1,6 @@
 //! The checker that follows the rules from scratch.
 ghost use Rattle.std.specs.Prelude.{◌≡◌, ◌↔◌, ℕ, List, Some, IfOk, Contains};
-ghost use Rattle.mj_answer.specs.Order.{NameBefore, IsAscendingBy};
+ghost use Rattle.ordered_names.specs.Order.{NameBefore, IsAscendingBy};
 ghost use Rattle.mj_classes.specs.Declarations.{decl};
 ghost use Rattle.mj_members.specs.Classes.{class_ref_view};
 ghost use Rattle.mj_classes.specs.Classes.{files_view};
@@ -17,10 +17,10 @@ use crate::reading::read_files;
 use crate::tables::class_table;
 use mj_answer::{Answer, ClassAnswer, fault_set, name_set};
 use mj_classes::{ClassRef, Declarations};
-use mj_lexer::Name;
-use mj_project::Project;
 use mj_tables::MemberTables;
 use mj_tree::FileTree;
+use named_files::Project;
+use ordered_names::Name;
 use profiles::Profile;
 use std::alloc::{AllocError, Global};
 

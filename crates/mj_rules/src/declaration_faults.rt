@@ -5,16 +5,16 @@ ghost use Rattle.mj_classes.specs.Declarations.{decl};
 ghost use Rattle.mj_classes.specs.Chains.{chain_of};
 ghost use Rattle.mj_members.specs.Classes.{class_ref_view};
 ghost use Rattle.mj_classes.specs.Index.{declared_in};
-ghost use Rattle.mj_project.specs.Repeats.{repeats};
+ghost use Rattle.named_files.specs.Repeats.{repeats};
 ghost use Rattle.mj_rules.specs.Worlds.{sig_of};
 ghost use Rattle.mj_rules.specs.FaultLists.{each_numbered, superclass_faults, chain_faults, is_undeclared, field_faults, same_type, same_types, same_signature, accepts, may_override, override_faults, method_faults_of, rest_of, nearest_sig, declaration_faults};
 
 use mj_answer::{Code, Diagnostic};
 use mj_classes::{ClassRef, Declarations, End};
-use mj_lexer::Name;
-use mj_project::repeats;
 use mj_tables::MemberTables;
 use mj_tree::{Field, MethodTree, Place, Ty, Variable};
+use named_files::repeats;
+use ordered_names::Name;
 use profiles::Profile;
 use std::alloc::{AllocError, Global};
 

@@ -16,7 +16,7 @@ pub use laws::{answer_laws, class_fault_laws, project_fault_laws, sentence_laws,
 pub use mj_answer::{
     Answer, ClassAnswer, ClassTable, Code, Diagnostic, FieldRow, MethodRow, render,
 };
-pub use mj_project::{Project, ProjectFault};
+pub use named_files::{Project, ProjectFault};
 pub use profiles::Profile;
 pub use reading::read_file;
 pub use tables::field_row;

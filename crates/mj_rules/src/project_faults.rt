@@ -3,16 +3,16 @@ ghost use Rattle.std.specs.Prelude.{◌≡◌, [], ◌++◌, if◌then◌else◌
 ghost use Rattle.mj_tree.specs.Views.{file_view};
 ghost use Rattle.mj_members.specs.Classes.{class_ref_view, classes_view};
 ghost use Rattle.mj_classes.specs.Classes.{files_view};
-ghost use Rattle.mj_project.specs.Projects.{sources_view, names_of, IsFileName};
-ghost use Rattle.mj_project.specs.Repeats.{repeats};
+ghost use Rattle.named_files.specs.Projects.{sources_view, names_of, IsFileName};
+ghost use Rattle.named_files.specs.Repeats.{repeats};
 ghost use Rattle.mj_rules.specs.Sentences.{trees_of, classes_in};
 ghost use Rattle.mj_rules.specs.FaultLists.{has_main, any_main, file_faults, files_faults, repeated_class, repeated_class_faults, class_names, each_numbered, project_faults};
 
 use mj_answer::{Code, Diagnostic};
 use mj_classes::ClassRef;
-use mj_lexer::Name;
-use mj_project::{Project, repeats};
 use mj_tree::{FileTree, Place};
+use named_files::{Project, repeats};
+use ordered_names::Name;
 use std::alloc::{AllocError, Global};
 
 /// Adds what is wrong with a file, where an earlier one has a main class or none has.

@@ -5,8 +5,8 @@ ghost use Rattle.mj_classes.specs.Classes.{files_view};
 ghost use Rattle.mj_rules.specs.Sentences.{file_of, trees_of};
 
 use file_index::{ReadFile, read};
-use mj_project::Project;
 use mj_tree::FileTree;
+use named_files::Project;
 use std::alloc::{AllocError, Global};
 
 /// The tree of a file's bytes, if they are a sentence.

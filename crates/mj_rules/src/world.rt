@@ -1,10 +1,10 @@
 //! The declarations of a project, as the check of a body asks for them.
 
 use crate::tables::formal_types;
-use mj_lexer::Name;
 use mj_phrases::MethodTypes;
 use mj_tables::MemberTables;
 use mj_tree::Ty;
+use ordered_names::Name;
 use std::alloc::{AllocError, Global};
 
 /// What the declarations of a project say.

@@ -13,7 +13,7 @@ use Rattle.std.proofs.lemmas.Map.Text.{is_eq-slice_cmp}
 use Rattle.std.proofs.lemmas.Option.{none-some, same_Some}
 use Rattle.mj_tree.specs.Trees.{Name}
 use Rattle.mj_tree.proofs.Positions.{bytes_eq_back, find-map}
-use Rattle.mj_answer.specs.Order.{NameBefore, IsAscendingByName}
+use Rattle.ordered_names.specs.Order.{NameBefore, IsAscendingByName}
 use Rattle.mj_members.specs.Declarations.{ClassDecl}
 use Rattle.mj_members.specs.Tables.{named_rows, all_along, firsts}
 use Rattle.mj_members.proofs.Tables.{by_bytes, under}

@@ -9,7 +9,7 @@ ghost use Rattle.mj_classes.specs.Members.{nearest, own_method, field_of, method
 use crate::tables::MemberTables;
 use mj_answer::find_by_name;
 use mj_classes::{ClassRef, FieldMember, MethodMember};
-use mj_lexer::Name;
+use ordered_names::Name;
 
 impl<'a> MemberTables<'a> {
     /// The nearest field of this name that a class has.

@@ -6,7 +6,7 @@ ghost use Rattle.mj_tables.specs.Tables.{IsTableOf};
 
 use crate::making::{MemberTable, all_tables};
 use mj_classes::Declarations;
-use mj_lexer::Name;
+use ordered_names::Name;
 use std::alloc::{AllocError, Global};
 use std::marker::Model;
 

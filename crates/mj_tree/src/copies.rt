@@ -4,7 +4,7 @@ ghost use Rattle.mj_tree.specs.Trees as trees;
 ghost use Rattle.mj_tree.specs.Views.{exp_view, exps_view, stmt_view, stmts_view, method_view};
 
 use crate::tree::{Exp, MethodTree, Operator, Stmt, Variable};
-use mj_lexer::Name;
+use ordered_names::Name;
 use std::alloc::{AllocError, Global};
 
 impl Exp {

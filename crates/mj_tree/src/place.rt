@@ -1,7 +1,7 @@
 //! Where a diagnostic stands.
 ghost use Rattle.std.specs.Prelude.{◌≡◌, IfOk};
 
-use mj_lexer::Name;
+use ordered_names::Name;
 use std::alloc::{AllocError, Global};
 
 /// A place that stays the same under edits outside its item. Places are ordered as they are listed here, then by

@@ -2,7 +2,7 @@
 //! is 0. Contracts see a tree by its view, which leaves out where it lies in memory.
 ghost use Rattle.std.specs.Prelude.{◌≡◌, IfOk};
 
-use mj_lexer::Name;
+use ordered_names::Name;
 use std::alloc::{AllocError, Global};
 
 /// The most levels of a phrase: a statement in a body and the returned expression have level 1, a part of a phrase one

@@ -8,7 +8,7 @@ use Rattle.mj_tree.specs.declared.tree.Ty.TheVariants as ty
 use Rattle.mj_tree.specs.declared.tree.Variable.{Variable}
 use Rattle.mj_answer.specs.declared.code.Code.{Code}
 use Rattle.mj_answer.specs.declared.code.Code.TheVariants.{E206, E207}
-use Rattle.mj_answer.proofs.Alike.{nowhere, Contains-first, Contains-later, Contains-cases}
+use Rattle.ordered_names.proofs.Alike.{nowhere, Contains-first, Contains-later, Contains-cases}
 use Rattle.mj_phrases.specs.declared.verdict.Mistake.{Mistake}
 use Rattle.mj_phrases.specs.Types.{is_same}
 use Rattle.mj_phrases.specs.Inquiries.{World}

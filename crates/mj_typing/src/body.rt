@@ -7,12 +7,12 @@ ghost use Rattle.mj_phrases.specs.Table.{phrase_of, name_phrase, return_phrase, 
 ghost use Rattle.mj_phrases.specs.declared.asking.Stop.TheVariants.{OutOfMemory};
 ghost use Rattle.mj_typing.specs.Bodies.{statement_step, statements_step};
 
-use mj_lexer::Name;
 use mj_phrases::{
     Asking, Mistake, Scope, Stop, Target, check, check_assign, check_condition, check_print,
     check_store, report, return_value,
 };
 use mj_tree::{Exp, Stmt, Ty};
+use ordered_names::Name;
 use std::alloc::Global;
 
 /// Checks a returned value.

@@ -8,9 +8,9 @@ ghost use Rattle.mj_typing.specs.Bodies.{method_step, main_step, statement_step,
 
 use crate::body::{check_return, check_statement, check_statements};
 use mj_answer::Code;
-use mj_lexer::Name;
 use mj_phrases::{Asking, Mistake, Scope, Stop};
 use mj_tree::{MainTree, MethodTree, Stmt, Ty, Variable};
+use ordered_names::Name;
 use std::alloc::{AllocError, Global};
 
 /// The token of a method's return type, behind `public`.

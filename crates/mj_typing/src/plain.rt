@@ -5,9 +5,9 @@ ghost use Rattle.mj_phrases.specs.Inquiries.{conclusion};
 ghost use Rattle.mj_typing.specs.Bodies.{method_faults, main_faults};
 
 use crate::check::{check_main, check_method};
-use mj_lexer::Name;
 use mj_phrases::{Asking, Environment, Mistake, Stop};
 use mj_tree::{MainTree, MethodTree, Ty};
+use ordered_names::Name;
 use std::alloc::{AllocError, Global};
 use std::convert::Infallible;
 

@@ -10,7 +10,7 @@ use Rattle.item_ids.specs.declared.key.Key.TheVariants.{Files, Source}
 use Rattle.item_ids.specs.Inputs.{rank}
 use Rattle.item_ids.proofs.Lists.{all_from}
 use Rattle.fingerprint.specs.Prints.{print_of}
-use Rattle.mj_project.specs.Projects.{IsProject}
+use Rattle.named_files.specs.Projects.{IsProject}
 use Rattle.recorder.specs.Projects.{Project}
 use Rattle.recorder.specs.Backed.{Meaning, ReadLists, RunnerLaws, Queries, AreLawful, Alike}
 use Rattle.sessions.specs.declared.terms.Terms.{Terms}

@@ -1,7 +1,7 @@
 -- The session that a previous session and a project decide, whatever the events are.
 use Rattle.std.specs.Prelude.{◌≡◌, ℕ, List, Option, IfSome, Contains}
 use Rattle.item_ids.specs.declared.key.Key.TheVariants.{Source}
-use Rattle.mj_project.specs.Projects.{names_of}
+use Rattle.named_files.specs.Projects.{names_of}
 use Rattle.recorder.specs.Projects.{Project}
 use Rattle.recorder.specs.Backed.{Meaning, ReadLists, Queries}
 use Rattle.sessions.specs.declared.terms.Terms.{Terms}

@@ -1,6 +1,6 @@
 //! Laws of next sessions.
 ghost use Rattle.std.specs.Prelude.{◌≡◌, Option, IfSome};
-ghost use Rattle.mj_project.specs.Projects.{IsProject};
+ghost use Rattle.named_files.specs.Projects.{IsProject};
 ghost use Rattle.recorder.specs.Projects.{Project};
 ghost use Rattle.recorder.specs.Backed.{Queries, AreLawful};
 ghost use Rattle.sessions.specs.declared.terms.Terms.{Terms};

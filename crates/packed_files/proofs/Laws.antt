@@ -10,7 +10,7 @@ use Rattle.byte_readers.specs.Lawful.{IsBytes, Takes}
 use Rattle.byte_readers.specs.Laws.{IsBytes-drop, Takes-then, lawful_eight}
 use Rattle.byte_readers.specs.Reading.{eight_at}
 use Rattle.byte_readers.specs.Spelling.{eight}
-use Rattle.mj_project.specs.Projects.{SourceFile}
+use Rattle.named_files.specs.Projects.{SourceFile}
 use Rattle.packed_files.specs.Packing.{IsPackable, packed, packed_file, run}
 use Rattle.packed_files.specs.Unpacking.{◌>>=◌, file_at, or_flaw, run_at, source_file}
 use Rattle.packed_files.specs.declared.flaws.Flaw.{Flaw}

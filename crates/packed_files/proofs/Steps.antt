@@ -4,7 +4,7 @@ use Rattle.std.specs.List.{AllByRecursion}
 use Rattle.std.proofs.lemmas.Bool.Decides.{nat_tests}
 use Rattle.std.proofs.lemmas.List.{length-append, append-nil}
 use Rattle.byte_readers.specs.Lawful.{IsBytes}
-use Rattle.mj_project.specs.Projects.{SourceFile}
+use Rattle.named_files.specs.Projects.{SourceFile}
 use Rattle.packed_files.specs.Packing.{IsPackable, packed, packed_file}
 use Rattle.packed_files.specs.Unpacking.{IsRefusedAt, UnpacksOne, file_at}
 use Rattle.packed_files.specs.declared.flaws.Flaw.{Flaw}

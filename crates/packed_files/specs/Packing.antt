@@ -2,7 +2,7 @@
 use Rattle.std.specs.Prelude.{◌≡◌, ℕ, ◌<◌, ◌^◌, true, List, ◌++◌, length, flat_map}
 use Rattle.std.specs.Str.{is_utf8}
 use Rattle.byte_readers.specs.Spelling.{eight}
-use Rattle.mj_project.specs.Projects.{SourceFile}
+use Rattle.named_files.specs.Projects.{SourceFile}
 
 -- the length of some bytes in eight bytes, the greatest first, and the bytes
 abbrev pub run : List ℕ → List ℕ

@@ -4,7 +4,7 @@ use Rattle.std.specs.List.{AllByRecursion}
 use Rattle.std.specs.Str.{is_utf8}
 use Rattle.byte_readers.specs.declared.breach.Breach.{Breach}
 use Rattle.byte_readers.specs.Reading.{eight_at}
-use Rattle.mj_project.specs.Projects.{SourceFile}
+use Rattle.named_files.specs.Projects.{SourceFile}
 use Rattle.packed_files.specs.Packing.{IsPackable, packed}
 use Rattle.packed_files.specs.declared.flaws.Flaw.{Flaw}
 use Rattle.packed_files.specs.declared.flaws.Flaw.TheVariants as flaws

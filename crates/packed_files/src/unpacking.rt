@@ -1,7 +1,7 @@
 //! Unpacking files.
 ghost use Rattle.std.specs.Prelude.{◌≡◌, ◌≢◌, List, Ok, Err, IfOk, IfErr, MatchResult, length};
 ghost use Rattle.std.specs.List.{AllByRecursion};
-ghost use Rattle.mj_project.specs.Projects.{SourceFile, sources_view};
+ghost use Rattle.named_files.specs.Projects.{SourceFile, sources_view};
 ghost use Rattle.packed_files.specs.Packing.{IsPackable, packed};
 ghost use Rattle.packed_files.specs.Unpacking.{Refuses, UnpacksOne, IsRefusedAt, file_at, run_at, source_file};
 ghost use Rattle.packed_files.specs.declared.flaws.UnpackFault.TheVariants.{OutOfMemory};

@@ -4,7 +4,7 @@ use Rattle.std.specs.declared.alloc.Global.{Global}
 use Rattle.std.specs.Prelude.{IfOk, IfErr, IsErrAnd, Contains}
 use Rattle.audit_graph.specs.declared.fault.AuditFault.{AuditFault}
 use Rattle.audit_graph.specs.declared.fault.AuditFault.TheVariants as chain
-use Rattle.mj_project.specs.declared.project.ProjectFault.TheVariants as project
+use Rattle.named_files.specs.declared.project.ProjectFault.TheVariants as project
 use Rattle.session_file.specs.declared.fault.FileFault.TheVariants as file
 use Rattle.session_cache.specs.Starts.{IsUnreadableCache, path_of}
 use Rattle.session_cache.specs.declared.fault.CacheReadFault.{CacheReadFault}

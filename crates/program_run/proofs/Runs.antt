@@ -1,7 +1,7 @@
 -- What a run writes and ends with.
 use Rattle.std.proofs.Common.{◌≡◌, ◌∙◌, ◌⊎◌, inl, inr, ℕ, List, [], ◌∷◌, Option, Some, is_some, map, string_bytes, String, Vec, refl, sym, ap, subst, arith}
 use Rattle.std.specs.declared.alloc.Global.{Global}
-use Rattle.mj_project.specs.Projects.{names_of, sources_view}
+use Rattle.named_files.specs.Projects.{names_of, sources_view}
 use Rattle.command_line.specs.CommandLine.{Asks}
 use Rattle.command_line.specs.declared.asked.Subcommand.{Subcommand}
 use Rattle.command_line.proofs.ProgramWords.{plain_asked}

@@ -1,7 +1,7 @@
 -- The sources of an audit.
 use Rattle.std.proofs.Common.{◌≡◌, ◌≢◌, ◌∷◌, [], List, ℕ, Option, None, Some, false, length, map, refl, subst}
 use Rattle.std.specs.Prelude.{◌==◌}
-use Rattle.mj_project.specs.Projects.{SourceFile, names_of}
+use Rattle.named_files.specs.Projects.{SourceFile, names_of}
 use Rattle.profiles.specs.declared.profile.Profile.{Profile}
 use Rattle.mini_java.specs.AnswerValues.{IsAnswerValue}
 use Rattle.result_bytes.specs.declared.value.Value.{Value}

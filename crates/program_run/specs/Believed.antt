@@ -1,7 +1,7 @@
 -- What a check may be believed for.
 use Rattle.std.specs.Prelude.{◌≡◌, ◌⊎◌, ℕ, List, Option, map, string_bytes}
 use Rattle.std.specs.Io.KnownBytes.{Appends}
-use Rattle.mj_project.specs.Projects.{SourceFile, names_of}
+use Rattle.named_files.specs.Projects.{SourceFile, names_of}
 use Rattle.profiles.specs.Profiles.{profile_number}
 use Rattle.profiles.specs.declared.profile.Profile.{Profile}
 use Rattle.mj_rules.specs.AnswerWords.{AnswerValue, text_of}

@@ -1,6 +1,6 @@
 -- What a check over a cache reports.
 use Rattle.std.specs.Prelude.{◌≡◌, ◌++◌, ◌+◌, ℕ, Bool, List, map, string_bytes}
-use Rattle.mj_project.specs.Projects.{SourceFile, names_of}
+use Rattle.named_files.specs.Projects.{SourceFile, names_of}
 use Rattle.mj_rules.specs.AnswerWords.{AnswerValue, text_of}
 use Rattle.profiles.specs.Profiles.{profile_number}
 use Rattle.sessions.specs.Sessions.{SessionValue}

@@ -1,7 +1,7 @@
 -- How a run ends.
 use Rattle.std.specs.Prelude.{ℕ, Bool, true, false, [], ◌∷◌, Contains}
 use Rattle.audit_graph.specs.declared.fault.AuditFault.TheVariants as chain
-use Rattle.mj_project.specs.declared.project.ProjectFault.TheVariants as project
+use Rattle.named_files.specs.declared.project.ProjectFault.TheVariants as project
 use Rattle.session_file.specs.declared.fault.FileFault.TheVariants as file
 use Rattle.program_run.specs.declared.failure.Failure.{Failure}
 use Rattle.program_run.specs.declared.failure.Failure.TheVariants as failure

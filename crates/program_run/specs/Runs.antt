@@ -2,7 +2,7 @@
 use Rattle.std.specs.Prelude.{◌≡◌, ◌⊎◌, ℕ, false, List, [], IsTrue, Option, None, String, map, string_bytes}
 use Rattle.std.specs.Io.KnownBytes.{Appends}
 use Rattle.std.specs.declared.alloc.Global.{Global}
-use Rattle.mj_project.specs.Projects.{SourceFile, names_of}
+use Rattle.named_files.specs.Projects.{SourceFile, names_of}
 use Rattle.profiles.specs.Profiles.{profile_number}
 use Rattle.profiles.specs.declared.profile.Profile.{Profile}
 use Rattle.mj_rules.specs.AnswerWords.{AnswerValue, text_of}

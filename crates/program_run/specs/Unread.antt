@@ -1,8 +1,8 @@
 -- Why files or the cache can't be read, or files are no project.
 use Rattle.std.specs.Prelude.{◌≡◌, ◌≢◌, ℕ, List, Contains, string_bytes}
-use Rattle.mj_project.specs.Projects.{SourceFile, Refuses, names_of}
-use Rattle.mj_project.specs.declared.project.ProjectFault.{ProjectFault}
-use Rattle.mj_project.specs.declared.project.ProjectFault.TheVariants as project
+use Rattle.named_files.specs.Projects.{SourceFile, Refuses, names_of}
+use Rattle.named_files.specs.declared.project.ProjectFault.{ProjectFault}
+use Rattle.named_files.specs.declared.project.ProjectFault.TheVariants as project
 use Rattle.session_cache.specs.declared.fault.CacheReadFault.{CacheReadFault}
 use Rattle.session_cache.specs.declared.fault.CacheReadFault.TheVariants as cache
 use Rattle.program_run.specs.declared.failure.Failure.{Failure}

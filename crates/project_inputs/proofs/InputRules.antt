@@ -4,8 +4,8 @@ use Rattle.std.specs.declared.alloc.Global.{Global}
 use Rattle.std.proofs.lemmas.List.Elements.{Contains-append_left, Contains-append_right, Contains-push}
 use Rattle.std.proofs.lemmas.Option.{slice_get-get_or}
 use Rattle.result_bytes.specs.Storable.{AreDistinctNames}
-use Rattle.mj_project.specs.Projects.{SourceFile, source_view, names_of, IsFileName, IsProject}
-use Rattle.mj_project.proofs.Listed.{place_of}
+use Rattle.named_files.specs.Projects.{SourceFile, source_view, names_of, IsFileName, IsProject}
+use Rattle.named_files.proofs.Listed.{place_of}
 
 has_first : {X : Type 0} (x : X) (xs : List X) → Contains (x ∷ xs) x
 has_first x xs = Contains-append_left (x ∷ []) xs x (Contains-push [] x)

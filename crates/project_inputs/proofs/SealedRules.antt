@@ -7,7 +7,7 @@ use Rattle.std.specs.declared.sync.Arc.{Arc}
 use Rattle.std.proofs.lemmas.List.{get_or-map, length-map, map-append, take_more}
 use Rattle.result_bytes.specs.declared.value.Value.{Value}
 use Rattle.result_bytes.specs.declared.value.Value.TheVariants.{Source}
-use Rattle.mj_project.specs.Projects.{SourceFile, source_view, IsFileName, IsProject}
+use Rattle.named_files.specs.Projects.{SourceFile, source_view, IsFileName, IsProject}
 use Rattle.project_inputs.specs.Inputs.{AreNamed, AreSourcesOf}
 use Rattle.project_inputs.proofs.InputRules.{good_name}
 

@@ -6,7 +6,7 @@ use Rattle.std.specs.declared.alloc.Global.{Global}
 use Rattle.std.specs.declared.sync.Arc.{Arc}
 use Rattle.result_bytes.specs.declared.value.Value.{Value}
 use Rattle.result_bytes.specs.declared.value.Value.TheVariants.{Source}
-use Rattle.mj_project.specs.Projects.{SourceFile, IsFileName}
+use Rattle.named_files.specs.Projects.{SourceFile, IsFileName}
 use Rattle.recorder.specs.Projects.{Project}
 
 -- the bytes in the value of a file's source

@@ -4,7 +4,7 @@ ghost use Rattle.std.specs.List.{AllByRecursion};
 ghost use Rattle.std.specs.Arc.{arc_value};
 ghost use Rattle.item_ids.specs.declared.key.Key.TheVariants as keys;
 ghost use Rattle.result_bytes.specs.declared.value.Value.TheVariants as values;
-ghost use Rattle.mj_project.specs.Projects.{IsProject, names_of, source_view};
+ghost use Rattle.named_files.specs.Projects.{IsProject, names_of, source_view};
 ghost use Rattle.recorder.specs.Projects.{bytes_at};
 ghost use Rattle.graph_rules.specs.Keys.{input_of};
 ghost use Rattle.project_inputs.specs.Inputs.{file_of, bytes_in, IsSource, AreSourcesOf};
@@ -13,8 +13,8 @@ use crate::sealing::{sealed_by, sealed_sources};
 use fingerprint::{Sealed, seal};
 use indexmap::IndexMap;
 use item_ids::Key;
-use mj_lexer::Name;
-use mj_project::Project;
+use named_files::Project;
+use ordered_names::Name;
 use result_bytes::{FileNames, Value};
 use sessions::Session;
 use std::alloc::{AllocError, Global};
@@ -44,7 +44,7 @@ impl Model for Inputs {
     ghost use Rattle.std.specs.Arc.{arc_value};
     ghost use Rattle.std.specs.List.{AllByRecursion};
     ghost use Rattle.result_bytes.specs.declared.value.Value.TheVariants as values;
-    ghost use Rattle.mj_project.specs.Projects.{IsProject, names_of};
+    ghost use Rattle.named_files.specs.Projects.{IsProject, names_of};
     ghost use Rattle.recorder.specs.Projects.{Project};
     ghost use Rattle.project_inputs.specs.Inputs.{file_of, IsSource};
 

@@ -2,13 +2,13 @@
 ghost use Rattle.std.specs.Prelude.{◌≡◌, ◌<◌, ◌≤◌, ◌++◌, IfOk, IfSome, Some, length, map};
 ghost use Rattle.std.specs.Arc.{arc_value};
 ghost use Rattle.result_bytes.specs.declared.value.Value.TheVariants as values;
-ghost use Rattle.mj_project.specs.Projects.{source_view};
+ghost use Rattle.named_files.specs.Projects.{source_view};
 ghost use Rattle.project_inputs.specs.Inputs.{AreNamed, AreSourcesOf};
 
 use crate::inputs::seal_to_share;
 use fingerprint::Sealed;
 use item_ids::Key;
-use mj_lexer::Name;
+use ordered_names::Name;
 use result_bytes::{Text, Value};
 use sessions::Session;
 use std::alloc::{AllocError, Global};

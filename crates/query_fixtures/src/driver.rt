@@ -24,7 +24,7 @@ pub struct Driver<R: Runner> {
 }
 
 impl<R: Runner> Model for Driver<R> {
-    ghost use Rattle.mj_project.specs.Projects.{IsProject};
+    ghost use Rattle.named_files.specs.Projects.{IsProject};
     ghost use Rattle.profiles.specs.declared.profile.Profile.TheVariants.{One};
     ghost use Rattle.recorder.specs.Backed.{GivesEach};
     ghost use Rattle.recorder.specs.Projects.{Project};

@@ -10,7 +10,7 @@ use crate::driver::Driver;
 use crate::rows::Row;
 use answer_fixtures::{Unfit, is_spelled, key_of, project_of};
 use item_ids::Key;
-use mj_project::Project;
+use named_files::Project;
 use project_inputs::Inputs;
 use providers::MiniJava;
 use run_fixtures::Given;

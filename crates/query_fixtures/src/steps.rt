@@ -4,7 +4,7 @@ ghost use Rattle.recorder.specs.Backed.{GivesEach};
 ghost use Rattle.item_ids.specs.declared.key.Key.{Key};
 ghost use Rattle.item_ids.specs.Inputs.{rank as rank_of};
 ghost use Rattle.result_bytes.specs.declared.value.Value.{Value};
-ghost use Rattle.mj_project.specs.Projects.{IsProject};
+ghost use Rattle.named_files.specs.Projects.{IsProject};
 ghost use Rattle.profiles.specs.declared.profile.Profile.TheVariants.{One};
 ghost use Rattle.recorder.specs.Projects.{Project};
 ghost use Rattle.query_fixtures.specs.Steps.{IsStepOf};

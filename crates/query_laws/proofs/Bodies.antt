@@ -18,7 +18,7 @@ use Rattle.recorder.specs.Projects.{Project}
 use Rattle.query_rules.specs.Items.{class_at, body_by, own_body, body_at, signature_of}
 use Rattle.query_laws.specs.Given.{IsFirstDeclaration, IsBodyOf, OfMethod, OfMain, IsSignatureOf}
 use Rattle.query_laws.proofs.Found.{own_of, own_is}
-use Rattle.mj_project.proofs.Listed.{from_map}
+use Rattle.named_files.proofs.Listed.{from_map}
 
 same_method : {a b : Method} → bodies.OfMethod a ≡ bodies.OfMethod b → a ≡ b
 same_method e = cc

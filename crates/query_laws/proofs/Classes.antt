@@ -6,14 +6,14 @@ use Rattle.std.proofs.lemmas.Option.{none-some, same_Some}
 use Rattle.mj_tree.specs.Trees.{Name, File}
 use Rattle.mj_tree.specs.declared.tree.Field.{Field}
 use Rattle.mj_answer.specs.AnswerValues.{ClassTableValue}
-use Rattle.mj_answer.specs.Order.{NameBefore, IsAscendingBy}
-use Rattle.mj_answer.proofs.Alike.{one_list_by, Contains-cases, Contains-first, Contains-later, nowhere}
-use Rattle.mj_answer.proofs.Orders.{names}
+use Rattle.ordered_names.specs.Order.{NameBefore, IsAscendingBy}
+use Rattle.ordered_names.proofs.Alike.{one_list_by, Contains-cases, Contains-first, Contains-later, nowhere}
+use Rattle.ordered_names.proofs.Orders.{names}
 use Rattle.mj_members.specs.Declarations.{ClassDecl}
 use Rattle.mj_classes.specs.Declarations.{decl}
 use Rattle.mj_classes.specs.Chains.{chain_of}
 use Rattle.mj_classes.proofs.Climb.{decl_name}
-use Rattle.mj_project.proofs.Listed.{contains_at, place_of, map_at, from_map}
+use Rattle.named_files.proofs.Listed.{contains_at, place_of, map_at, from_map}
 use Rattle.mj_rules.specs.Sentences.{file_of, classes_in}
 use Rattle.mj_rules.specs.Rules.{IsTableOf}
 use Rattle.mj_rules.specs.FaultLists.{class_names}

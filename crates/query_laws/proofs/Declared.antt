@@ -5,10 +5,10 @@ use Rattle.std.specs.Str.{bytes_eq}
 use Rattle.std.proofs.lemmas.Option.{none-some, same_Some}
 use Rattle.std.proofs.lemmas.List.Folds.{find-append}
 use Rattle.mj_tree.specs.Trees.{Name, Main, Class, File}
-use Rattle.mj_answer.proofs.Alike.{Contains-cases, nowhere}
+use Rattle.ordered_names.proofs.Alike.{Contains-cases, nowhere}
 use Rattle.mj_members.specs.Declarations.{ClassDecl, main_decl, class_decl}
 use Rattle.mj_classes.specs.Declarations.{number_classes, main_first, classes_of, declared_from, decl}
-use Rattle.mj_project.specs.Projects.{SourceFile}
+use Rattle.named_files.specs.Projects.{SourceFile}
 use Rattle.mj_rules.specs.Sentences.{file_of, trees_of, classes_in}
 use Rattle.mj_rules.proofs.OneAnswer.{decl_stands}
 use Rattle.mj_rules.proofs.LowerLaws.{sentence_law}

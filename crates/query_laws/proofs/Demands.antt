@@ -9,7 +9,7 @@ use Rattle.mj_members.specs.Declarations.{ClassDecl}
 use Rattle.mj_classes.specs.Declarations.{decl}
 use Rattle.mj_classes.proofs.Climb.{decl_name}
 use Rattle.mj_phrases.specs.declared.verdict.Mistake.{Mistake}
-use Rattle.mj_project.proofs.Listed.{contains_at, place_of, at_map}
+use Rattle.named_files.proofs.Listed.{contains_at, place_of, at_map}
 use Rattle.profiles.specs.declared.profile.Profile.{Profile}
 use Rattle.mj_rules.specs.Sentences.{classes_in}
 use Rattle.mj_rules.specs.ClassFaults.{FaultOfClass}

@@ -9,7 +9,7 @@ use Rattle.mj_answer.specs.declared.code.Code.{Code}
 use Rattle.mj_answer.specs.declared.code.Code.TheVariants.{E201, E202, E203, E204, E205, E206}
 use Rattle.mj_answer.specs.declared.diagnostic.Diagnostic.{Diagnostic}
 use Rattle.mj_answer.specs.Order.{Before}
-use Rattle.mj_answer.proofs.Alike.{nowhere}
+use Rattle.ordered_names.proofs.Alike.{nowhere}
 use Rattle.mj_members.specs.Declarations.{ClassDecl}
 use Rattle.mj_classes.specs.Declarations.{decl}
 use Rattle.mj_classes.specs.Chains.{Chain, chain_of}
@@ -17,8 +17,8 @@ use Rattle.mj_classes.proofs.Climb.{decl_name}
 use Rattle.mj_phrases.specs.declared.verdict.Mistake.{Mistake}
 use Rattle.mj_phrases.specs.Inquiries.{Sig}
 use Rattle.mj_typing.specs.Bodies.{MethodFault, MainFault, method_faults, main_faults}
-use Rattle.mj_project.specs.Repeats.{repeats}
-use Rattle.mj_project.proofs.Listed.{contains_at}
+use Rattle.named_files.specs.Repeats.{repeats}
+use Rattle.named_files.proofs.Listed.{contains_at}
 use Rattle.profiles.specs.declared.profile.Profile.{Profile}
 use Rattle.mj_rules.specs.Sentences.{classes_in}
 use Rattle.mj_rules.specs.Worlds.{world_of}

@@ -8,9 +8,9 @@ use Rattle.item_ids.specs.declared.key.Key.{Key}
 use Rattle.item_ids.specs.Keys.{key_cmp}
 use Rattle.item_ids.proofs.Apart.{test_same, test_itself}
 use Rattle.result_bytes.specs.declared.value.Value.{Value}
-use Rattle.mj_answer.specs.Order.{IsAscendingBy}
-use Rattle.mj_answer.proofs.Alike.{one_list, Contains-cases, Contains-first, Contains-later, nowhere}
-use Rattle.mj_project.proofs.Listed.{contains_at}
+use Rattle.ordered_names.specs.Order.{IsAscendingBy}
+use Rattle.ordered_names.proofs.Alike.{one_list, Contains-cases, Contains-first, Contains-later, nowhere}
+use Rattle.named_files.proofs.Listed.{contains_at}
 use Rattle.recorder.specs.Programs.{Prog, Ret, Ask, asks}
 use Rattle.recorder.proofs.Recorded.{all_at}
 use Rattle.recorder.proofs.Seen.{unseen_last}

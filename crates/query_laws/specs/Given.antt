@@ -5,11 +5,11 @@ use Rattle.mj_tree.specs.declared.place.Place.{Place}
 use Rattle.mj_tree.specs.declared.place.Place.TheVariants.{Inside}
 use Rattle.mj_answer.specs.declared.code.Code.{Code}
 use Rattle.mj_answer.specs.AnswerValues.{ClassTableValue}
-use Rattle.mj_answer.specs.Order.{IsAscendingByName}
+use Rattle.ordered_names.specs.Order.{IsAscendingByName}
 use Rattle.mj_members.specs.Declarations.{ClassDecl}
 use Rattle.mj_classes.specs.Declarations.{classes_of, decl}
 use Rattle.mj_classes.specs.Chains.{EndOf, IsChain}
-use Rattle.mj_project.specs.Projects.{SourceFile}
+use Rattle.named_files.specs.Projects.{SourceFile}
 use Rattle.profiles.specs.declared.profile.Profile.{Profile}
 use Rattle.mj_rules.specs.Sentences.{IsSentence, classes_in}
 use Rattle.mj_rules.specs.ClassFaults.{FaultOfClass, main_word}

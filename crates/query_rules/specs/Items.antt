@@ -11,7 +11,7 @@ use Rattle.mj_classes.specs.Members.{own_method}
 use Rattle.mj_phrases.specs.declared.verdict.Mistake.{Mistake}
 use Rattle.mj_phrases.specs.Inquiries.{World}
 use Rattle.mj_typing.specs.Bodies.{method_faults, main_faults}
-use Rattle.mj_project.specs.Projects.{SourceFile}
+use Rattle.named_files.specs.Projects.{SourceFile}
 use Rattle.mj_rules.specs.Sentences.{file_of, classes_in}
 use Rattle.mj_rules.specs.ClassFaults.{main_word}
 use Rattle.mj_rules.specs.FaultLists.{method_names}

@@ -10,7 +10,7 @@ use Rattle.mj_members.specs.Declarations.{ClassDecl}
 use Rattle.mj_classes.specs.Chains.{chain_of, chain_names}
 use Rattle.mj_classes.specs.Members.{own_method}
 use Rattle.mj_phrases.specs.Inquiries.{Sig}
-use Rattle.mj_project.specs.Projects.{names_of}
+use Rattle.named_files.specs.Projects.{names_of}
 use Rattle.profiles.specs.declared.profile.Profile.{Profile}
 use Rattle.profiles.specs.declared.profile.Profile.TheVariants.{One, Two}
 use Rattle.mj_rules.specs.Sentences.{classes_in}

@@ -7,7 +7,7 @@ use Rattle.item_ids.specs.Inputs.{Origin, files, source, computed, origin}
 use Rattle.item_ids.specs.KeyLists.{AreLower, NoneTwice}
 use Rattle.result_bytes.specs.declared.value.Value.{Value}
 use Rattle.result_bytes.specs.Values.{kind_of_value, IsOfKind}
-use Rattle.mj_project.specs.Projects.{IsProject}
+use Rattle.named_files.specs.Projects.{IsProject}
 use Rattle.recorder.specs.Projects.{Project}
 use Rattle.recorder.specs.Backed.{Meaning, ReadLists, Alike, NextAlike, ValueAlike, ReadLaws, RunnerLaws, is_seen}
 use Rattle.recorder.specs.Programs.{Prog, Ret, Ask, runs, asks, Fits, Tied}

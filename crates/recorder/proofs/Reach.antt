@@ -7,7 +7,7 @@ use Rattle.item_ids.specs.declared.key.Key.{Key}
 use Rattle.item_ids.specs.Inputs.{rank}
 use Rattle.item_ids.specs.KeyLists.{AreLower}
 use Rattle.result_bytes.specs.declared.value.Value.{Value}
-use Rattle.mj_project.specs.Projects.{IsProject}
+use Rattle.named_files.specs.Projects.{IsProject}
 use Rattle.recorder.specs.Projects.{Project}
 use Rattle.recorder.specs.Backed.{Meaning, ReadLists, ReadValue, keys, Gives, GivesEach, BeginsWith, Asked, IsNext, Backed, is_seen}
 use Rattle.recorder.specs.Recording.{IsUnread}

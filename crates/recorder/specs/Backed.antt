@@ -12,7 +12,7 @@ use Rattle.item_ids.specs.KeyLists.{NoneTwice, AreLower}
 use Rattle.result_bytes.specs.declared.value.Value.{Value}
 use Rattle.result_bytes.specs.declared.value.Value.TheVariants as values
 use Rattle.result_bytes.specs.Values.{IsValue, IsOfKind}
-use Rattle.mj_project.specs.Projects.{names_of, IsProject}
+use Rattle.named_files.specs.Projects.{names_of, IsProject}
 use Rattle.recorder.specs.Projects.{Project, bytes_at}
 
 -- the value of each key in a project

@@ -1,6 +1,6 @@
 -- What a query may read of a project that no query computes: its files.
 use Rattle.std.specs.Prelude.{ℕ, List, find, Option, option_map, bytes_eq}
-use Rattle.mj_project.specs.Projects.{SourceFile}
+use Rattle.named_files.specs.Projects.{SourceFile}
 
 abbrev pub Project : Type 0
 Project = List SourceFile

@@ -1,6 +1,6 @@
 -- What is written of a session.
 use Rattle.std.specs.Prelude.{◌≡◌, ◌++◌, ℕ, Bool, List, string_bytes}
-use Rattle.mj_project.specs.Projects.{SourceFile}
+use Rattle.named_files.specs.Projects.{SourceFile}
 use Rattle.mj_rules.specs.AnswerWords.{AnswerValue, text_of}
 use Rattle.sessions.specs.Sessions.{SessionValue}
 use Rattle.cached_check.specs.Checks.{IsAnswerIn}

@@ -1,6 +1,6 @@
 -- What is written of a project that is checked from its files alone.
 use Rattle.std.specs.Prelude.{◌≡◌, Bool, List, string_bytes}
-use Rattle.mj_project.specs.Projects.{SourceFile}
+use Rattle.named_files.specs.Projects.{SourceFile}
 use Rattle.mj_rules.specs.AnswerWords.{AnswerValue, text_of}
 use Rattle.mj_rules.specs.Rules.{Rules}
 use Rattle.profiles.specs.declared.profile.Profile.{Profile}

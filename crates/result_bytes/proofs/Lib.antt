@@ -1,1 +1,4 @@
 pub mod ValueLaws
+pub mod SendTrees
+pub mod SendAnswers
+pub mod SendValues

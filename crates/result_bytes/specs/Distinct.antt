@@ -6,8 +6,8 @@ use Rattle.std.specs.Str.{bytes_eq}
 use Rattle.std.proofs.lemmas.Slice.Eq.{bytes_eq-Decides}
 use Rattle.std.proofs.lemmas.List.Elements.{Contains-append_left, Contains-push, Contains-push_cases}
 use Rattle.std.proofs.lemmas.Bool.{or_parts, not-true}
-use Rattle.mj_answer.proofs.Orders.{names}
-use Rattle.mj_answer.proofs.Alike.{Contains-cases, Contains-first, Contains-later, nowhere}
+use Rattle.ordered_names.proofs.Orders.{names}
+use Rattle.ordered_names.proofs.Alike.{Contains-cases, Contains-first, Contains-later, nowhere}
 use Rattle.byte_readers.specs.Lawful.{Admitted}
 use Rattle.result_bytes.specs.Storable.{AreDistinctNames}
 use Rattle.result_bytes.specs.Reading.{is_new}

@@ -4,7 +4,7 @@ use Rattle.std.specs.Prelude.{◌≢◌}
 use Rattle.std.specs.List.{flat_map}
 use Rattle.std.proofs.lemmas.Bool.{ltb-false, le-ltb, eqb-false, ne_eqb, or_parts, not-true}
 use Rattle.std.proofs.lemmas.List.{take_at, drop_at, take-append-drop, length-append, length-take-le}
-use Rattle.mj_answer.proofs.Alike.{nowhere}
+use Rattle.ordered_names.proofs.Alike.{nowhere}
 use Rattle.byte_readers.specs.declared.breach.Breach.{Breach}
 use Rattle.byte_readers.specs.declared.breach.Breach.TheVariants.{Short, NotCanonical}
 use Rattle.byte_readers.specs.Spelling.{eight, name, list}
@@ -15,7 +15,7 @@ use Rattle.tree_spelling.specs.TypeLaws.{lawful_ty, lawful_field}
 use Rattle.result_bytes.specs.declared.parts.ChainEnd.{ChainEnd}
 use Rattle.result_bytes.specs.declared.parts.ChainEnd.TheVariants.{Top, Undeclared, Repeated}
 use Rattle.result_bytes.specs.Canon.{text, index_row, boolean, header, signature, chain_end, chain}
-use Rattle.mj_project.specs.Projects.{most_files}
+use Rattle.named_files.specs.Projects.{most_files}
 use Rattle.result_bytes.specs.Storable.{FileNamesFit, TextFits, IndexRowFits, IndexFits, HeaderFits, SignatureFits, ChainEndFits, ChainFits}
 use Rattle.result_bytes.specs.Reading.{is_new, is_file_count, file_names_at, text_at, index_row_of, index_row_at, index_at, boolean_at, header_value, header_at, signature_value, signature_at, chain_end_at, chain_value, chain_at}
 use Rattle.answer_bytes.specs.OrderLaws.{lawful_by_name}

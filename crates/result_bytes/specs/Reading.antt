@@ -12,7 +12,7 @@ use Rattle.result_bytes.specs.declared.parts.ChainEnd.{ChainEnd}
 use Rattle.result_bytes.specs.declared.parts.ChainEnd.TheVariants.{Top, Undeclared, Repeated}
 use Rattle.result_bytes.specs.declared.files.IndexRow.{IndexRow}
 use Rattle.result_bytes.specs.Payloads.{HeaderValue, SignatureValue, ChainValue}
-use Rattle.mj_project.specs.Projects.{most_files}
+use Rattle.named_files.specs.Projects.{most_files}
 use Rattle.answer_bytes.specs.Reading.{by_name}
 
 -- whether no name in front is this one

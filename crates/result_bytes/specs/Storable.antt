@@ -6,7 +6,7 @@ use Rattle.tree_spelling.specs.Storable.{TyFits, FieldFits}
 use Rattle.result_bytes.specs.declared.parts.ChainEnd.{ChainEnd}
 use Rattle.result_bytes.specs.declared.parts.ChainEnd.TheVariants.{Top, Undeclared, Repeated}
 use Rattle.result_bytes.specs.declared.files.IndexRow.{IndexRow}
-use Rattle.mj_project.specs.Projects.{most_files}
+use Rattle.named_files.specs.Projects.{most_files}
 use Rattle.result_bytes.specs.Payloads.{HeaderValue, SignatureValue, ChainValue}
 use Rattle.answer_bytes.specs.Storable.{IsCount, OrderedFits, ByName}
 

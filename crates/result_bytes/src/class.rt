@@ -8,8 +8,8 @@ use crate::parts::{
 use byte_readers::{
     Format, NameFormat, ReadError, check_list, put_list, put_option, read_list, read_option,
 };
-use mj_lexer::Name;
 use mj_tree::{Field, Ty};
+use ordered_names::Name;
 use std::alloc::{AllocError, Global};
 use std::marker::Model;
 use tree_spelling::{FieldFormat, TypeFormat, check_ty, put_ty, read_ty};

@@ -1,6 +1,6 @@
 //! What is known of the project's files.
 ghost use Rattle.std.specs.Prelude.{◌≡◌, ◌<◌, ◌≤◌, ◌++◌, List, ℕ, [], length, OnOk};
-ghost use Rattle.mj_project.specs.Projects.{most_files};
+ghost use Rattle.named_files.specs.Projects.{most_files};
 ghost use Rattle.byte_readers.specs.Spelling.{name, list};
 ghost use Rattle.byte_readers.specs.Reading.{Decodes, name_at, list_from};
 ghost use Rattle.result_bytes.specs.Storable.{AreDistinctNames, FileNamesFit, TextFits};
@@ -12,8 +12,8 @@ use byte_readers::{
     put_eight, put_list, put_name, read_ascending, read_eight, read_name, read_name_text,
 };
 use mj_answer::Named;
-use mj_lexer::Name;
-use mj_project::Project;
+use named_files::Project;
+use ordered_names::Name;
 use std::alloc::{AllocError, Global};
 use std::collections::BTreeSet;
 use std::marker::Model;
@@ -297,7 +297,7 @@ impl Model for Index {
 }
 
 impl Index {
-    ghost use Rattle.mj_answer.specs.Order.{IsAscendingByName};
+    ghost use Rattle.ordered_names.specs.Order.{IsAscendingByName};
     ghost use Rattle.result_bytes.specs.Storable.{IndexFits};
 
     /// These rows.

@@ -7,7 +7,7 @@ ghost use Rattle.result_bytes.specs.Storable.{ChainEndFits};
 ghost use Rattle.result_bytes.specs.Reading.{boolean_at, chain_end_at};
 
 use byte_readers::{Breach, ReadError, check_name, not_canonical, put_name, read_name};
-use mj_lexer::Name;
+use ordered_names::Name;
 use std::alloc::{AllocError, Global};
 
 /// How a chain of classes ends.

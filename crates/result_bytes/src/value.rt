@@ -6,7 +6,7 @@ use crate::files::{FileNames, Index, IndexRow, Text};
 use answer_bytes::{Faults, Members, WholeAnswer};
 use item_ids::Kind;
 use mj_answer::Diagnostic;
-use mj_lexer::Name;
+use ordered_names::Name;
 use tree_bytes::{Body, Tree};
 
 /// The result of a query, one arm for each kind. `None` is the result for a key that names nothing.
@@ -62,7 +62,7 @@ impl Drop for Value {
 impl Value {
     ghost use Rattle.result_bytes.specs.Values.{kind_of_value};
     ghost use Rattle.result_bytes.specs.Parts.{files_in, source_in, tree_in, index_in, header_in, body_in, signature_in, supers_in, members_in, faults_in};
-    ghost use Rattle.mj_answer.specs.Order.{IsAscendingByName};
+    ghost use Rattle.ordered_names.specs.Order.{IsAscendingByName};
     ghost use Rattle.answer_bytes.specs.Storable.{AreClassFaults, ClassFaultsFit};
 
     /// The kind of query that it is a result of.

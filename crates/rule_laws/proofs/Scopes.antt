@@ -4,10 +4,10 @@ use Rattle.std.specs.Prelude.{slice_get}
 use Rattle.std.proofs.lemmas.Bool.{cases_order}
 use Rattle.std.proofs.lemmas.Option.{same_Some}
 use Rattle.mj_tree.specs.Trees.{Name, Statement, Method}
-use Rattle.mj_answer.proofs.Alike.{nowhere}
+use Rattle.ordered_names.proofs.Alike.{nowhere}
 use Rattle.mj_members.specs.Declarations.{ClassDecl}
-use Rattle.mj_project.specs.Projects.{SourceFile}
-use Rattle.mj_project.proofs.Listed.{contains_at}
+use Rattle.named_files.specs.Projects.{SourceFile}
+use Rattle.named_files.proofs.Listed.{contains_at}
 use Rattle.mj_phrases.specs.Table.{Scope, method_scope}
 use Rattle.mj_rules.specs.ClassFaults.{IsFirstMethod}
 use Rattle.mj_rules.proofs.Declared.{orderly_class}

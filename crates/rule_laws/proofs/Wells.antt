@@ -5,7 +5,7 @@ use Rattle.std.proofs.lemmas.List.Elements.{Contains-append_left, Contains-appen
 use Rattle.mj_tree.specs.Trees.{Name, Expression, Named, none, more, Statement, Statements, Block, If, While, Print, Assign, Store, done, next, Method}
 use Rattle.mj_tree.specs.declared.tree.Ty.{Ty}
 use Rattle.mj_tree.specs.declared.tree.Ty.TheVariants as ty
-use Rattle.mj_answer.proofs.Alike.{nowhere, Contains-first, Contains-later, Contains-cases}
+use Rattle.ordered_names.proofs.Alike.{nowhere, Contains-first, Contains-later, Contains-cases}
 use Rattle.mj_phrases.specs.declared.verdict.Verdict.{Verdict}
 use Rattle.mj_phrases.specs.Inquiries.{World, conclusion}
 use Rattle.mj_phrases.specs.Phrases.{Phrase, HasType, Well}

@@ -8,7 +8,7 @@ use Rattle.mj_answer.specs.declared.diagnostic.Diagnostic.{Diagnostic}
 use Rattle.mj_phrases.specs.declared.verdict.Mistake.{Mistake}
 use Rattle.mj_phrases.specs.Phrases.{type_of, Well}
 use Rattle.mj_phrases.specs.Table.{Scope, phrase_of, own_phrase, return_phrase}
-use Rattle.mj_project.specs.Projects.{SourceFile}
+use Rattle.named_files.specs.Projects.{SourceFile}
 use Rattle.profiles.specs.declared.profile.Profile.{Profile}
 use Rattle.mj_rules.specs.Rules.{Rules}
 use Rattle.rule_laws.specs.Demands.{OfExpression, OfStatement, OfReturn}

@@ -8,7 +8,7 @@ use Rattle.mj_phrases.specs.declared.verdict.Mistake.{Mistake}
 use Rattle.mj_phrases.specs.Inquiries.{World}
 use Rattle.mj_phrases.specs.Table.{Scope, method_scope, main_scope}
 use Rattle.mj_phrases.specs.Cases.{HasTypeByCases}
-use Rattle.mj_project.specs.Projects.{SourceFile}
+use Rattle.named_files.specs.Projects.{SourceFile}
 use Rattle.mj_rules.specs.Sentences.{classes_in}
 use Rattle.mj_rules.specs.Worlds.{world_of}
 use Rattle.mj_rules.specs.ClassFaults.{IsFirstMethod, main_word}

@@ -1,7 +1,7 @@
 //! Tests: numbers of codes, and orders worked by hand. How answers are printed is shown by golden tests.
 use crate::made::name;
 use mj_answer::{Code, ascending, find_by_name, name_set, position_by_name};
-use mj_lexer::Name;
+use ordered_names::Name;
 use std::alloc::{AllocError, Global};
 
 fn names(alloc: Global, texts: &[&str]) -> Result<Vec<Name>, AllocError> {

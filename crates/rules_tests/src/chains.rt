@@ -2,8 +2,8 @@
 //! accepted by which, and which class of a name counts are shown by golden tests.
 use crate::made::{name, trees_of};
 use mj_classes::{ClassChain, ClassRef, Declarations, End};
-use mj_lexer::Name;
 use mj_tree::FileTree;
+use ordered_names::Name;
 use std::alloc::{AllocError, Global};
 use std::test::*;
 

@@ -1,7 +1,7 @@
 //! Names and trees, made from their texts.
-use mj_lexer::Name;
 use mj_rules::read_file;
 use mj_tree::FileTree;
+use ordered_names::Name;
 use std::alloc::{AllocError, Global};
 
 /// A name; `?` for a text that is none.

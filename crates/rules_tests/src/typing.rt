@@ -2,10 +2,10 @@
 //! each phrase demands is shown by golden tests.
 use crate::made::trees_of;
 use mj_answer::Code;
-use mj_lexer::Name;
 use mj_phrases::{Asking, MethodSignature, Mistake, Stop};
 use mj_tree::{ClassTree, FileTree, MainTree, Ty};
 use mj_typing::{check_main, check_method};
+use ordered_names::Name;
 use std::alloc::{AllocError, Global};
 use std::test::*;
 

@@ -9,7 +9,7 @@ use Rattle.mj_answer.specs.declared.diagnostic.Diagnostic.{Diagnostic}
 use Rattle.result_bytes.specs.Payloads.{HeaderValue, SignatureValue}
 use Rattle.result_bytes.specs.declared.value.Value.{Value}
 use Rattle.result_bytes.specs.declared.value.Value.TheVariants.{Files, Source, Tree, Index, Header, Method, Sig, Supers, Members, CheckClass, CheckBody, Diags, Answer}
-use Rattle.mj_project.specs.Projects.{names_of}
+use Rattle.named_files.specs.Projects.{names_of}
 use Rattle.recorder.specs.Projects.{Project, bytes_at}
 use Rattle.runner_fixtures.specs.Phrases.{Phrase, Phrases, Named, Called, NoMore, More, phrase_for}
 

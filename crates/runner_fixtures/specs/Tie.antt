@@ -6,7 +6,7 @@ use Rattle.item_ids.specs.declared.key.Key.TheVariants as keys
 use Rattle.item_ids.specs.Inputs.{rank}
 use Rattle.result_bytes.specs.Payloads.{HeaderValue}
 use Rattle.result_bytes.specs.declared.value.Value.TheVariants.{Header, Sig, CheckClass, CheckBody}
-use Rattle.mj_project.specs.Projects.{names_of}
+use Rattle.named_files.specs.Projects.{names_of}
 use Rattle.recorder.specs.Projects.{Project}
 use Rattle.recorder.specs.Backed.{AreLawful}
 use Rattle.recorder.specs.Programs.{Prog, Ret, Ask, runs, asks, Fits, Tied}

@@ -8,8 +8,8 @@ ghost use Rattle.runner_fixtures.specs.Programs.{header_steps, sig_steps, sig_bo
 
 use fingerprint::Sealed;
 use item_ids::Key;
-use mj_lexer::Name;
 use mj_tree::Ty;
+use ordered_names::Name;
 use recorder::{Reader, Recorder, RunFault, ask_key};
 use result_bytes::{Header, Signature, Text, Value};
 use std::alloc::{AllocError, Global};

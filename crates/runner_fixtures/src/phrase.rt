@@ -3,7 +3,7 @@ ghost use Rattle.std.specs.Prelude.{◌≡◌, IfOk, map};
 ghost use Rattle.runner_fixtures.specs.Phrases.{phrase_for, phrases_of, Named, Called};
 ghost use Rattle.runner_fixtures.specs.View.{view_of};
 
-use mj_lexer::Name;
+use ordered_names::Name;
 use std::alloc::{AllocError, AllocFailed, Global};
 
 /// A name, or a phrase with a list of parts.

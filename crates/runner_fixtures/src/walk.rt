@@ -6,7 +6,7 @@ ghost use Rattle.runner_fixtures.specs.View.{view_of};
 
 use crate::headers::{ask_header, ask_signature};
 use crate::phrase::Phrase;
-use mj_lexer::Name;
+use ordered_names::Name;
 use recorder::{Reader, Recorder, RunFault};
 use std::alloc::Global;
 

@@ -1,4 +1,2 @@
-pub mod Trees
-pub mod Answers
 pub mod Results
 pub mod Maps

@@ -1,104 +1,26 @@
--- Results of queries and sealed results may go from one thread to another, and be shared.
-use denote.Param.Send.{IsSend, IsSync}
-use Rattle.std.proofs.MapsCrossing
+-- Keys and sealed results may go from one thread to another, and be shared, since values may.
+use denote.Param.Send.{IsSend, IsSync, sendable}
+use Rattle.std.proofs.Crossing
+use Rattle.ordered_names.proofs.name.Name.TheSendSync as name_crosses
 use Rattle.item_ids.specs.contracts.key.Key as key
-use Rattle.tree_bytes.specs.contracts.tree.Tree as tree
-use Rattle.result_bytes.specs.contracts.class.Header as header
-use Rattle.result_bytes.specs.contracts.class.Signature as signature
-use Rattle.result_bytes.specs.contracts.class.Supers as supers
-use Rattle.result_bytes.specs.contracts.files.FileNames as file_names
-use Rattle.result_bytes.specs.contracts.files.Text as text
-use Rattle.result_bytes.specs.contracts.files.Index as index
-use Rattle.result_bytes.specs.contracts.value.Value as value
+use Rattle.result_bytes.proofs.SendValues.{value_send, value_sync}
 use Rattle.fingerprint.specs.contracts.sealed.Sealed as sealed
-use Rattle.send_sync.proofs.Trees.{types, bodies, body_send, body_sync, trees}
-use Rattle.send_sync.proofs.Answers.{members_send, members_sync, faults_send, faults_sync, whole_answer_send, whole_answer_sync}
+
+ruleset names = (name_crosses.the_send, name_crosses.the_sync, Crossing.crosses, sendable)
 
 pub key_send : IsSend key.the_row
-key_send = search types depth 60 fits 20000
+key_send = search names depth 60 fits 20000
 
 pub key_sync : IsSync key.the_row
-key_sync = search types depth 60 fits 20000
+key_sync = search names depth 60 fits 20000
 
-pub tree_send : IsSend tree.the_row
-tree_send = search (MapsCrossing.crosses, trees) depth 60 fits 20000
-
-pub tree_sync : IsSync tree.the_row
-tree_sync = search (MapsCrossing.crosses, trees) depth 60 fits 20000
-
-pub header_send : IsSend header.the_row
-header_send = search bodies depth 60 fits 20000
-
-pub header_sync : IsSync header.the_row
-header_sync = search bodies depth 60 fits 20000
-
-pub signature_send : IsSend signature.the_row
-signature_send = search types depth 60 fits 20000
-
-pub signature_sync : IsSync signature.the_row
-signature_sync = search types depth 60 fits 20000
-
-pub supers_send : IsSend supers.the_row
-supers_send = search types depth 60 fits 20000
-
-pub supers_sync : IsSync supers.the_row
-supers_sync = search types depth 60 fits 20000
-
-pub file_names_send : IsSend file_names.the_row
-file_names_send = search types depth 60 fits 20000
-
-pub file_names_sync : IsSync file_names.the_row
-file_names_sync = search types depth 60 fits 20000
-
-pub text_send : IsSend text.the_row
-text_send = search types depth 60 fits 20000
-
-pub text_sync : IsSync text.the_row
-text_sync = search types depth 60 fits 20000
-
-pub index_send : IsSend index.the_row
-index_send = search types depth 60 fits 20000
-
-pub index_sync : IsSync index.the_row
-index_sync = search types depth 60 fits 20000
-
-pub ruleset results = (
-  tree_send,
-  tree_sync,
-  body_send,
-  body_sync,
-  header_send,
-  header_sync,
-  signature_send,
-  signature_sync,
-  supers_send,
-  supers_sync,
-  file_names_send,
-  file_names_sync,
-  text_send,
-  text_sync,
-  index_send,
-  index_sync,
-  members_send,
-  members_sync,
-  faults_send,
-  faults_sync,
-  whole_answer_send,
-  whole_answer_sync,
-  types,
-)
-
-pub value_send : IsSend value.the_row
-value_send = search results depth 60 fits 20000
-
-pub value_sync : IsSync value.the_row
-value_sync = search results depth 60 fits 20000
+ruleset values = (value_send, value_sync, names)
 
 pub sealed_send : IsSend sealed.the_row
-sealed_send = search results depth 60 fits 20000
+sealed_send = search values depth 60 fits 20000
 
 pub sealed_sync : IsSync sealed.the_row
-sealed_sync = search results depth 60 fits 20000
+sealed_sync = search values depth 60 fits 20000
 
 -- what a table and a session are made of
-pub ruleset sealed_results = (sealed_send, sealed_sync, key_send, key_sync, types)
+pub ruleset sealed_results = (sealed_send, sealed_sync, key_send, key_sync, names)

@@ -5,7 +5,7 @@ use Rattle.std.specs.List.{All, AllByRecursion}
 use Rattle.std.proofs.lemmas.List.{get_or-map, get_or_default, length-map}
 use Rattle.std.proofs.lemmas.List.Elements.{recursion_from_All}
 use Rattle.item_ids.specs.declared.key.Key.{Key}
-use Rattle.mj_answer.specs.Order.{IsAscendingBy}
+use Rattle.ordered_names.specs.Order.{IsAscendingBy}
 use Rattle.sessions.specs.Sessions.{Entry, RecordValue, SessionValue, IsSession, entry_at, entry_of}
 use Rattle.sessions.proofs.EntryRules.{entry_of_place, has_key, has_record}
 use Rattle.graph_rules.specs.Graphs.{KeyBefore}

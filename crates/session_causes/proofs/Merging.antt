@@ -11,8 +11,8 @@ use Rattle.item_ids.specs.declared.key.Key.{Key}
 use Rattle.item_ids.specs.Keys.{key_cmp, key_total}
 use Rattle.item_ids.proofs.Apart.{key_exact}
 use Rattle.item_ids.proofs.Lists.{all_map}
-use Rattle.mj_answer.specs.Order.{IsAscendingBy}
-use Rattle.mj_answer.proofs.Alike.{Contains-cases, Contains-first, Contains-later}
+use Rattle.ordered_names.specs.Order.{IsAscendingBy}
+use Rattle.ordered_names.proofs.Alike.{Contains-cases, Contains-first, Contains-later}
 use Rattle.graph_rules.specs.Graphs.{KeyBefore}
 use Rattle.session_causes.specs.declared.keys.MergeStep.{MergeStep}
 use Rattle.session_causes.specs.Parts.{IsMergeStep, PassesKey, PassesLesserKey}

@@ -7,8 +7,8 @@ use Rattle.std.proofs.lemmas.List.{append-nil, map-append, take_all, take_more}
 use Rattle.item_ids.specs.declared.key.Key.{Key}
 use Rattle.item_ids.specs.declared.kind.Kind.{Kind}
 use Rattle.item_ids.specs.Keys.{kind_of}
-use Rattle.mj_answer.specs.Order.{IsAscendingBy}
-use Rattle.mj_answer.proofs.Alike.{Contains-cases, Contains-first, Contains-later}
+use Rattle.ordered_names.specs.Order.{IsAscendingBy}
+use Rattle.ordered_names.proofs.Alike.{Contains-cases, Contains-first, Contains-later}
 use Rattle.sessions.specs.declared.mark.Mark.{Mark}
 use Rattle.sessions.specs.declared.mark.Mark.TheVariants.{Executed}
 use Rattle.sessions.specs.Sessions.{Entry, SessionValue, IsSession, entry_at}

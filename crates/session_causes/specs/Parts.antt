@@ -7,7 +7,7 @@ use Rattle.item_ids.specs.declared.key.Key.{Key}
 use Rattle.item_ids.specs.declared.kind.Kind.{Kind}
 use Rattle.item_ids.specs.Keys.{key_cmp, kind_of}
 use Rattle.item_ids.specs.Inputs.{is_input}
-use Rattle.mj_answer.specs.Order.{IsAscendingBy}
+use Rattle.ordered_names.specs.Order.{IsAscendingBy}
 use Rattle.sessions.specs.declared.mark.Mark.{Mark}
 use Rattle.sessions.specs.declared.mark.Mark.TheVariants as marks
 use Rattle.sessions.specs.Sessions.{RecordValue, SessionValue}

@@ -1,10 +1,7 @@
--- Kinds and marks by their numbers.
+-- Marks by their numbers.
 use Rattle.std.proofs.Common.{◌≡◌, ℕ, ◌<◌, ◌≤◌, inl, inr, false, eqb, Option, Some, None, refl, sym, ap, ◌∙◌, arith}
 use Rattle.std.specs.Prelude.{IsSome, IfSome, ◌↔◌}
 use Rattle.std.proofs.lemmas.Bool.{ne_eqb, cases_lt}
-use Rattle.item_ids.specs.declared.kind.Kind.{Kind}
-use Rattle.item_ids.specs.Kinds.{number_of, kind_with}
-use Rattle.item_ids.specs.KindLaws.{kind_again}
 use Rattle.sessions.specs.declared.mark.Mark.{Mark}
 use Rattle.sessions.specs.declared.mark.Mark.TheVariants.{Input, Executed, Green}
 use Rattle.sessions.specs.Marks.{mark_number}
@@ -16,23 +13,12 @@ mark_again Input = refl
 mark_again Executed = refl
 mark_again Green = refl
 
-other : (k n : ℕ) → k < 13 → 13 ≤ n → eqb k n ≡ false
-other k n lt le = ne_eqb k n (λ e. omega (arith, e, lt, le))
-
-no_kind : (n : ℕ) → 13 ≤ n → kind_with n ≡ None
-unfolding kind_with
-no_kind n le = rw (other 0 n (omega arith) le, other 1 n (omega arith) le, other 2 n (omega arith) le, other 3 n (omega arith) le, other 4 n (omega arith) le, other 5 n (omega arith) le, other 6 n (omega arith) le, other 7 n (omega arith) le, other 8 n (omega arith) le, other 9 n (omega arith) le, other 10 n (omega arith) le, other 11 n (omega arith) le, other 12 n (omega arith) le) refl
-
 other_mark : (k n : ℕ) → k < 3 → 3 ≤ n → eqb k n ≡ false
 other_mark k n lt le = ne_eqb k n (λ e. omega (arith, e, lt, le))
 
 no_mark : (n : ℕ) → 3 ≤ n → mark_with n ≡ None
 unfolding mark_with
 no_mark n le = rw (other_mark 0 n (omega arith) le, other_mark 1 n (omega arith) le, other_mark 2 n (omega arith) le) refl
-
-pub kind_found : (n : ℕ) (found : Option Kind) → IfSome found (λ kind. number_of kind ≡ n) → IsSome found ↔ (n < 13) → found ≡ kind_with n
-kind_found n (Some kind) is known = sym (kind_again kind) ∙ ap kind_with is
-kind_found n None is known = elim (cases_lt n 13) [ inl lt ↦ let h = known.1 lt in absurd cc | inr le ↦ sym (no_kind n le) ]
 
 pub mark_found : (n : ℕ) (found : Option Mark) → IfSome found (λ mark. mark_number mark ≡ n) → IsSome found ↔ (n < 3) → found ≡ mark_with n
 mark_found n (Some mark) is known = sym (mark_again mark) ∙ ap mark_with is

@@ -4,7 +4,7 @@ ghost use Rattle.std.specs.Option.{option_copied};
 ghost use Rattle.sha2.specs.Hashers.{Holds256};
 ghost use Rattle.sha2.specs.Sha256.{sha256};
 ghost use Rattle.item_ids.specs.Kinds.{text_of};
-ghost use Rattle.mj_lexer.specs.Bytes.{most_name_bytes};
+ghost use Rattle.ordered_names.specs.Names.{most_name_bytes};
 ghost use Rattle.byte_readers.specs.Spelling.{eight};
 ghost use Rattle.sessions.specs.Spelling.{body_bytes, digest_of, file_of, head_bytes, record_bytes, result_bytes, start, told_bytes};
 ghost use Rattle.devices.specs.Devices.{CountsFailures, Puts};
@@ -14,7 +14,7 @@ use crate::fault::FileFault;
 use byte_readers::{eight_bytes, four_bytes};
 use devices::{DeviceFault, HashingSink, Sink, put_all, put_parts};
 use fingerprint::Sealed;
-use mj_lexer::Name;
+use ordered_names::Name;
 use sessions::{Form, Mark, Record, Session, Terms};
 use std::thread::{Threads, join};
 

@@ -5,7 +5,7 @@ ghost use Rattle.std.specs.Str.{bytes_eq};
 ghost use Rattle.session_text.specs.SessionText.{and_name, key_words};
 
 use item_ids::{Key, kind_word};
-use mj_lexer::Name;
+use ordered_names::Name;
 use sessions::Session;
 use std::alloc::{AllocError, Global};
 use std::fmt::Write;

@@ -3,7 +3,7 @@ ghost use Rattle.std.specs.Prelude.{◌≡◌};
 ghost use Rattle.std.specs.Option.{option_copied};
 ghost use Rattle.session_text.specs.SessionText.{mark_word, name_word};
 
-use mj_lexer::Name;
+use ordered_names::Name;
 use sessions::Mark;
 
 pub(crate) fn name_word(name: Option<&Name>) -> &str

@@ -4,19 +4,21 @@ ghost use Rattle.sessions.specs.Sessions.{AreInside, entry_at, entry_of};
 
 use crate::record::Record;
 use crate::session::Session;
-use item_ids::Key;
+use item_ids::{Key, Kind};
 
 /// Finds the records of keys, in one session or another. Where the keys of a kind are asked for in order it needs no
 /// search: it looks first behind the last record of that kind that it found. Contracts see nothing of that.
 #[derive(Drop)]
 pub struct Finder {
-    behind: [usize; 13],
+    behind: [usize; Kind::COUNT],
 }
 
 impl Finder {
     /// A finder that has found nothing.
     pub fn new() -> Finder {
-        Finder { behind: [0; 13] }
+        Finder {
+            behind: [0; Kind::COUNT],
+        }
     }
 
     /// The record of a key in a session, with its index, or `None` where there is none.

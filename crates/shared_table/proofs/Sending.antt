@@ -8,7 +8,7 @@ use Rattle.std.proofs.sync.ledger.Book.TheSendSync as book
 use Rattle.std.specs.declared.sync.ledger.Ledger as ledger
 use Rattle.send_sync.proofs.Maps.{IndexMap-send}
 use Rattle.send_sync.proofs.Results.{sealed_results}
-use Rattle.mj_project.specs.contracts.project.Project as project
+use Rattle.named_files.specs.contracts.project.Project as project
 use Rattle.sessions.specs.contracts.record.Record as record_type
 use Rattle.sessions.specs.contracts.session.Session as session
 use Rattle.recorder.specs.declared.runner.Runner as runner

@@ -1,6 +1,6 @@
 -- What calls at a shared table answer, which others may change at any time.
 use Rattle.std.specs.Prelude.{◌≡◌, [], Result, Ok, Err}
-use Rattle.mj_project.specs.Projects.{IsProject}
+use Rattle.named_files.specs.Projects.{IsProject}
 use Rattle.recorder.specs.Backed.{Queries}
 use Rattle.graph_rules.specs.Steps.{Legal}
 use Rattle.graph_rules.specs.Sound.{AreBacked}

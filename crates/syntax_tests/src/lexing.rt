@@ -1,5 +1,6 @@
 //! Tests: expected values are from the language's rules and its worked examples.
-use mj_lexer::{Name, Token, TokenKind, lex, line_col};
+use mj_lexer::{Token, TokenKind, lex, line_col};
+use ordered_names::Name;
 use std::alloc::{AllocError, Global};
 use std::hash::{DefaultHasher, Hash, Hasher};
 use std::test::Fail;

@@ -1,8 +1,9 @@
 //! Tests: expected values are from the language's rules and its worked examples. Which texts are no file, where they
 //! stop being one, and the levels are shown by golden tests.
-use mj_lexer::{LexFault, Name, Token, lex};
+use mj_lexer::{LexFault, Token, lex};
 use mj_parser::{locate, parse};
 use mj_tree::{ClassTree, Exp, FileTree, MainTree, MethodTree, Place, Stmt, Ty, Variable};
+use ordered_names::Name;
 use std::alloc::{AllocError, Global};
 use std::test::Fail;
 

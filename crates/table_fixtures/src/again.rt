@@ -13,7 +13,7 @@ use fingerprint::Sealed;
 use item_ids::Key;
 use job_table::{Asked, CloseFault, Event, ReplayFault, Table, TableFault};
 use mini_java::MiniJava;
-use mj_project::Project;
+use named_files::Project;
 use recorder::Outcome;
 use sessions::{Session, Terms};
 use std::alloc::{AllocError, Global};

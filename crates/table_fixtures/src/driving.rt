@@ -9,7 +9,7 @@ ghost use Rattle.table_fixtures.specs.Reported.{HasCounts, IsReported, AreReport
 use crate::changes::share;
 use answer_fixtures::{Unfit, project_of};
 use mini_java::{DriveFault, Open, Reports, run_session, run_session_as};
-use mj_project::Project;
+use named_files::Project;
 use session_fixtures::session_of;
 use sessions::{Session, Terms};
 use std::alloc::Global;

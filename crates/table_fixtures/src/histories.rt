@@ -18,7 +18,7 @@ use item_ids::Key;
 use job_table::{Asked as Told, Table};
 use key_states::link_behind;
 use mini_java::MiniJava;
-use mj_project::Project;
+use named_files::Project;
 use session_file::digest;
 use session_fixtures::Kept;
 use sessions::{Mark, Session, Terms};

@@ -15,7 +15,7 @@ use answer_fixtures::{Unfit, key_of, project_of};
 use item_ids::Key;
 use job_table::{Event, ReplayFault};
 use mini_java::MiniJava;
-use mj_project::Project;
+use named_files::Project;
 use profiles::Profile;
 use recorder::Outcome;
 use session_fixtures::Kept;

@@ -10,7 +10,7 @@ use crate::changes::{Change, past_of};
 use answer_fixtures::{Unfit, project_of};
 use job_table::Table;
 use mini_java::MiniJava;
-use mj_project::Project;
+use named_files::Project;
 use sessions::Terms;
 use std::alloc::Global;
 

@@ -6,7 +6,7 @@ use Rattle.item_ids.specs.declared.key.Key.TheVariants as keys
 use Rattle.item_ids.specs.Inputs.{rank}
 use Rattle.mj_tree.specs.Trees.{Name, File}
 use Rattle.mj_members.specs.Declarations.{ClassDecl}
-use Rattle.mj_project.specs.Projects.{IsProject}
+use Rattle.named_files.specs.Projects.{IsProject}
 use Rattle.result_bytes.specs.Parts.{index_in}
 use Rattle.result_bytes.specs.declared.value.Value.{Value}
 use Rattle.profiles.specs.declared.profile.Profile.{Profile}

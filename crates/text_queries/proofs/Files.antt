@@ -11,8 +11,8 @@ use Rattle.mj_tree.specs.Trees.{Name, Main, Class, File}
 use Rattle.mj_tree.proofs.Positions.{find-map}
 use Rattle.mj_members.specs.Declarations.{ClassDecl, main_decl, class_decl}
 use Rattle.mj_classes.specs.Declarations.{number_classes, main_first, classes_of, declared_from, decl}
-use Rattle.mj_project.specs.Projects.{SourceFile, names_of, IsProject}
-use Rattle.mj_project.proofs.Listed.{place_of, contains_before, map_at, from_map}
+use Rattle.named_files.specs.Projects.{SourceFile, names_of, IsProject}
+use Rattle.named_files.proofs.Listed.{place_of, contains_before, map_at, from_map}
 use Rattle.mj_rules.specs.Sentences.{file_of, trees_of, classes_in}
 use Rattle.mj_rules.proofs.RowLemmas.{found_stands, finds_one}
 use Rattle.recorder.specs.Projects.{Project}

@@ -11,7 +11,7 @@ use Rattle.mj_tree.specs.Trees.{Name, Main, File}
 use Rattle.tree_bytes.specs.declared.stored.StoredClass.{StoredClass}
 use Rattle.tree_bytes.specs.declared.stored.StoredFile.{StoredFile}
 use Rattle.tree_bytes.specs.Stored.{stored_class, stored_file}
-use Rattle.mj_answer.specs.Order.{NameBefore, IsAscendingBy, IsAscendingByName}
+use Rattle.ordered_names.specs.Order.{NameBefore, IsAscendingBy, IsAscendingByName}
 use Rattle.mj_classes.specs.Declarations.{number_classes, main_first}
 use Rattle.mj_members.proofs.Tables.{by_bytes, under}
 use Rattle.mj_rules.specs.FaultLists.{class_names}

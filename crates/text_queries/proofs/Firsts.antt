@@ -12,12 +12,12 @@ use Rattle.std.proofs.lemmas.Option.{none-some}
 use Rattle.std.proofs.lemmas.Slice.Eq.{bytes_eq-Decides}
 use Rattle.std.proofs.lemmas.Map.Text.{is_eq-slice_cmp}
 use Rattle.mj_tree.specs.Trees.{Name}
-use Rattle.mj_answer.specs.Order.{NameBefore, IsAscendingBy, IsAscendingByName}
-use Rattle.mj_answer.proofs.Alike.{Contains-cases, nowhere}
+use Rattle.ordered_names.specs.Order.{NameBefore, IsAscendingBy, IsAscendingByName}
+use Rattle.ordered_names.proofs.Alike.{Contains-cases, nowhere}
 use Rattle.mj_tree.proofs.Positions.{bytes_eq_back}
 use Rattle.mj_members.proofs.Tables.{by_bytes, under, firsts_are}
 use Rattle.mj_members.proofs.Rows.{both_hold}
-use Rattle.mj_project.proofs.Listed.{place_of, contains_at, map_at}
+use Rattle.named_files.proofs.Listed.{place_of, contains_at, map_at}
 use Rattle.mj_rules.specs.Answering.{set_of, name_order}
 use Rattle.mj_rules.proofs.RowLemmas.{found_stands}
 use Rattle.mj_rules.proofs.Sets.{names_compare, set_ascends, to_set}

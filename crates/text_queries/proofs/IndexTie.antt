@@ -10,7 +10,7 @@ use Rattle.mj_tree.specs.Trees.{Name, File}
 use Rattle.mj_tree.proofs.Positions.{find-map}
 use Rattle.mj_members.specs.Declarations.{ClassDecl}
 use Rattle.mj_classes.specs.Declarations.{classes_of, declared_from, decl}
-use Rattle.mj_project.specs.Projects.{SourceFile, names_of, IsProject}
+use Rattle.named_files.specs.Projects.{SourceFile, names_of, IsProject}
 use Rattle.mj_rules.specs.Sentences.{file_of, trees_of, classes_in}
 use Rattle.mj_rules.specs.FaultLists.{class_names}
 use Rattle.mj_rules.specs.Answering.{set_of, name_order, first_classes}

@@ -6,7 +6,7 @@ use Rattle.item_ids.specs.declared.key.Key.TheVariants as keys
 use Rattle.mj_tree.specs.Trees.{Name, Statement, Main, Class, File}
 use Rattle.mj_members.specs.Declarations.{ClassDecl, main_decl, class_decl}
 use Rattle.mj_classes.specs.Declarations.{number_classes, main_first, classes_of, decl}
-use Rattle.mj_project.specs.Projects.{IsProject}
+use Rattle.named_files.specs.Projects.{IsProject}
 use Rattle.tree_bytes.specs.NamedBodies.{class_body, main_body, method_in, body_behind, body_named}
 use Rattle.result_bytes.specs.declared.value.Value.{Value}
 use Rattle.result_bytes.specs.declared.value.Value.TheVariants as values

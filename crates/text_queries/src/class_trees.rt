@@ -1,7 +1,7 @@
 //! The tree of the file that declares a class.
 ghost use Rattle.std.specs.Prelude.{◌≡◌, IfOk, IfErr, option_copied, option_map, option_and_then};
 ghost use Rattle.std.specs.Arc.{arc_value};
-ghost use Rattle.mj_answer.specs.Order.{IsAscendingByName};
+ghost use Rattle.ordered_names.specs.Order.{IsAscendingByName};
 ghost use Rattle.recorder.specs.Programs.{Goes, GivesUp};
 ghost use Rattle.text_queries.specs.Index.{first_file};
 ghost use Rattle.result_bytes.specs.Parts.{tree_in};
@@ -10,7 +10,7 @@ ghost use Rattle.text_queries.specs.ClassTrees.{file_step, class_tree_step};
 use fingerprint::Sealed;
 use item_ids::Key;
 use mj_answer::find_by_name;
-use mj_lexer::Name;
+use ordered_names::Name;
 use recorder::{Reader, Recorder, RunFault, read};
 use result_bytes::IndexRow;
 use std::alloc::Global;

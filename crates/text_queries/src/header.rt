@@ -8,8 +8,8 @@ ghost use Rattle.text_queries.specs.NamedHeaders.{main_header, class_header, hea
 ghost use Rattle.text_queries.specs.Header.{header_steps};
 
 use crate::class_trees::{ask_class_tree, tree_of};
-use mj_lexer::Name;
 use mj_tree::{Field, copy_fields};
+use ordered_names::Name;
 use recorder::{Reader, Recorder, RunFault};
 use result_bytes::{Header, Value};
 use std::alloc::{AllocError, Global};

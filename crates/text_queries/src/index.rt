@@ -9,7 +9,7 @@ ghost use Rattle.recorder.specs.Programs.{Goes, GivesUp, each};
 ghost use Rattle.text_queries.specs.Index.{row_in, file_rows, rows_step, first_file, first_rows, index_steps};
 
 use item_ids::Key;
-use mj_lexer::Name;
+use ordered_names::Name;
 use recorder::{Reader, Recorder, RunFault, read};
 use result_bytes::{Index, IndexRow, Value};
 use std::alloc::{AllocError, Global};

@@ -5,7 +5,7 @@ ghost use Rattle.recorder.specs.Programs.{Goes, GivesUp};
 ghost use Rattle.text_queries.specs.Method.{method_steps};
 
 use crate::class_trees::{ask_class_tree, tree_of};
-use mj_lexer::Name;
+use ordered_names::Name;
 use recorder::{Reader, Recorder, RunFault};
 use result_bytes::Value;
 use std::alloc::{AllocError, Global};

@@ -5,8 +5,8 @@ ghost use Rattle.query_rules.specs.Items.{signature_of};
 ghost use Rattle.text_queries.specs.Sig.{sig_steps};
 
 use item_ids::Key;
-use mj_lexer::Name;
 use mj_tree::{Ty, Variable};
+use ordered_names::Name;
 use recorder::{Reader, Recorder, RunFault, read};
 use result_bytes::{Signature, Value};
 use std::alloc::{AllocError, Global};

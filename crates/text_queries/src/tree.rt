@@ -5,8 +5,8 @@ ghost use Rattle.recorder.specs.Programs.{Goes, GivesUp};
 ghost use Rattle.text_queries.specs.Tree.{tree_steps};
 
 use item_ids::Key;
-use mj_lexer::Name;
 use mj_rules::read_file;
+use ordered_names::Name;
 use recorder::{Reader, Recorder, RunFault, read};
 use result_bytes::{Text, Value};
 use std::alloc::{AllocError, Global};

@@ -10,8 +10,8 @@ ghost use Rattle.tree_spelling.specs.Storable.{TopStmtFits, MethodFits};
 
 use crate::methods::read_types;
 use byte_readers::{Breach, ReadError, not_canonical, read_name};
-use mj_lexer::Name;
 use mj_tree::{MethodTree, Stmt, Ty, Variable};
+use ordered_names::Name;
 use std::alloc::{AllocError, Global};
 use std::marker::Model;
 use tree_spelling::{

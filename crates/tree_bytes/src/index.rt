@@ -7,7 +7,7 @@ ghost use Rattle.tree_bytes.specs.Indexes.{FindsClasses, FindsMethods, FindsEach
 ghost use Rattle.tree_bytes.specs.Stored.{stored_class};
 
 use crate::stored::{StoredClass, StoredMethod};
-use mj_lexer::Name;
+use ordered_names::Name;
 use std::alloc::{AllocError, Global};
 use std::collections::BTreeMap;
 

@@ -5,7 +5,7 @@ ghost use Rattle.tree_bytes.specs.NamedBodies.{body_named, main_body, class_body
 use crate::body::Body;
 use crate::stored::StoredMain;
 use crate::tree::Tree;
-use mj_lexer::Name;
+use ordered_names::Name;
 use std::alloc::{AllocError, Global};
 
 impl Tree {

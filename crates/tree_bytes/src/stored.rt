@@ -7,8 +7,8 @@ ghost use Rattle.tree_spelling.specs.Storable.{MainFits, MethodFits, ClassFits, 
 ghost use Rattle.tree_bytes.specs.Stored.{stored_class, stored_file};
 
 use crate::body::Body;
-use mj_lexer::Name;
 use mj_tree::{ClassTree, Field, FileTree, MainTree, MethodTree};
+use ordered_names::Name;
 use std::alloc::{AllocError, Global};
 use std::marker::Model;
 

@@ -7,8 +7,8 @@ ghost use Rattle.tree_bytes.specs.Stored.{stored_class, stored_file};
 
 use crate::index::ClassIndex;
 use crate::stored::{StoredClass, StoredFile, StoredMethod, store_file};
-use mj_lexer::Name;
 use mj_tree::FileTree;
+use ordered_names::Name;
 use std::alloc::{AllocError, Global};
 use std::marker::Model;
 

@@ -9,8 +9,8 @@ ghost use Rattle.tree_spelling.specs.Spelling.{node, exp, exps, stmt, stmts, cou
 use crate::types::put_ty;
 use crate::variables::VariableFormat;
 use byte_readers::{put_eight, put_four, put_list, put_name};
-use mj_lexer::Name;
 use mj_tree::{Exp, MethodTree, Operator, Stmt};
+use ordered_names::Name;
 use std::alloc::AllocError;
 
 fn operator_byte(operator: Operator) -> u8

@@ -1,6 +1,6 @@
 //! The check of a project over a cache.
 ghost use Rattle.std.specs.Prelude.{◌≡◌, ◌≤◌, IfOk, IfErr, map, string_bytes};
-ghost use Rattle.mj_project.specs.Projects.{names_of};
+ghost use Rattle.named_files.specs.Projects.{names_of};
 ghost use Rattle.cached_check.specs.Checks.{RecordsAnswer};
 ghost use Rattle.command_line.specs.Runnable.{IsCheckable};
 ghost use Rattle.program_run.specs.Checks.{ChecksAsked, ChecksTo, TellsSession};

@@ -1,6 +1,6 @@
 //! Keys and marks of records.
 ghost use Rattle.std.specs.Prelude.{◌≡◌, ◌≤◌, length, IfOk};
-ghost use Rattle.mj_lexer.specs.Bytes.{most_name_bytes};
+ghost use Rattle.ordered_names.specs.Names.{most_name_bytes};
 ghost use Rattle.item_ids.specs.Kinds.{kind_with};
 ghost use Rattle.session_file.specs.Keys.{key_of_kind, key_with, mark_with};
 ghost use Rattle.session_file.specs.Reading.{item_at, item_with};
@@ -13,7 +13,7 @@ use crate::reading::parts::{byte, text};
 use byte_readers::as_text;
 use devices::Feed;
 use item_ids::{Key, Kind};
-use mj_lexer::Name;
+use ordered_names::Name;
 use sessions::Mark;
 use std::alloc::{AllocError, Global};
 use std::marker::Model;

@@ -2,7 +2,7 @@
 ghost use Rattle.std.specs.Prelude.{◌≡◌, ◌≤◌, length, take, IfOk};
 ghost use Rattle.byte_readers.specs.Reading.{byte_at, two_at, four_at, eight_at};
 ghost use Rattle.session_file.specs.Reading.{slice_at, short_text_at, or_truncated};
-ghost use Rattle.mj_lexer.specs.Bytes.{most_name_bytes};
+ghost use Rattle.ordered_names.specs.Names.{most_name_bytes};
 ghost use Rattle.session_file.specs.Feeding.{Appends, CountsFeedFault, Feeds};
 
 use crate::reading::body_hash::BodyHash;

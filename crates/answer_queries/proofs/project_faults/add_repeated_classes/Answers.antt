@@ -1,8 +1,8 @@
 use Rattle.std.proofs.Common.{◌≡◌, ◌<◌, ◌++◌, get_or, slice_get, false, ap, ◌∙◌, inl, inr, length, arith}
 use Rattle.std.proofs.lemmas.List.{length-map}
 use Rattle.mj_tree.proofs.Positions.{read_at}
-use Rattle.mj_project.specs.Repeats.{repeats}
-use Rattle.mj_project.proofs.Listed.{map_at}
+use Rattle.named_files.specs.Repeats.{repeats}
+use Rattle.named_files.proofs.Listed.{map_at}
 use Rattle.mj_rules.proofs.Steps.{each_step, flag_read, flag_within}
 use Rattle.answer_queries.specs.Trees.{named_trees}
 use Rattle.answer_queries.specs.ProjectFaults.{NamedClass, class_names, name_view, names_view, repeated_class, repeat_faults}

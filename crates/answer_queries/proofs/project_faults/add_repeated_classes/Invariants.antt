@@ -1,5 +1,5 @@
 use Rattle.std.proofs.Common.{◌≡◌, ◌++◌, drop}
-use Rattle.mj_project.specs.Repeats.{repeats}
+use Rattle.named_files.specs.Repeats.{repeats}
 use Rattle.mj_rules.specs.FaultLists.{each_numbered}
 use Rattle.answer_queries.specs.Trees.{named_trees}
 use Rattle.answer_queries.specs.ProjectFaults.{class_names, names_view, repeat_faults, classes_faults}

@@ -1,5 +1,5 @@
 use Rattle.std.proofs.Common.{◌≡◌, take}
-use Rattle.mj_project.specs.Projects.{sources_view}
+use Rattle.named_files.specs.Projects.{sources_view}
 use Rattle.crew_fixtures.specs.Made.{source_files}
 use Rattle.crew_fixtures.proofs.files.files_of.Given as goal
 

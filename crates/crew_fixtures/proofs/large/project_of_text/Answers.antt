@@ -1,5 +1,5 @@
 use Rattle.std.proofs.Common.{ap, ◌∙◌}
-use Rattle.mj_project.specs.Projects.{names_of}
+use Rattle.named_files.specs.Projects.{names_of}
 use Rattle.crew_fixtures.proofs.large.project_of_text.Goals as goal
 
 pub returns : goal.returns

@@ -1,6 +1,6 @@
 use Rattle.std.proofs.Common.{◌≡◌, take}
 use Rattle.mj_classes.specs.Classes.{files_view}
-use Rattle.mj_project.specs.Projects.{sources_view}
+use Rattle.named_files.specs.Projects.{sources_view}
 use Rattle.mj_rules.specs.Sentences.{trees_of}
 use Rattle.fault_lines.proofs.sources.add_sources.Given as goal
 

@@ -1,7 +1,7 @@
 use Rattle.std.proofs.Common.{◌≡◌, ◌∙◌, ◌+◌, sym, ap, subst, [], ◌∷◌, ◌++◌, Bool, List, ℕ, take, not}
 use Rattle.std.proofs.lemmas.List.{take_more}
-use Rattle.mj_project.specs.Repeats.{is_in, repeats}
-use Rattle.mj_project.proofs.RepeatLemmas.{HasNames, names-insert}
+use Rattle.named_files.specs.Repeats.{is_in, repeats}
+use Rattle.named_files.proofs.RepeatLemmas.{HasNames, names-insert}
 use Rattle.member_queries.specs.FirstNames.{first_names}
 use Rattle.member_queries.proofs.Firsts.{new_name, first_push}
 use Rattle.member_queries.proofs.diags.first_names.Goals as goal

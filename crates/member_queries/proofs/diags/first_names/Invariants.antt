@@ -1,5 +1,5 @@
 use Rattle.std.proofs.Common.{◌≡◌, take}
-use Rattle.mj_project.proofs.RepeatLemmas.{HasNames}
+use Rattle.named_files.proofs.RepeatLemmas.{HasNames}
 use Rattle.member_queries.specs.FirstNames.{first_names}
 use Rattle.member_queries.proofs.diags.first_names.Given as goal
 

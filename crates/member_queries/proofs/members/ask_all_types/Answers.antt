@@ -1,6 +1,6 @@
 use Rattle.std.proofs.Common.{◌≤◌, List, [], ◌++◌, length, map, rules, sym, subst, arith}
 use Rattle.mj_answer.specs.AnswerValues.{MethodRowValue}
-use Rattle.mj_answer.specs.Order.{NameBefore, IsAscendingBy}
+use Rattle.ordered_names.specs.Order.{NameBefore, IsAscendingBy}
 use Rattle.recorder.specs.Programs.{GivesUp, LoopAt, each}
 use Rattle.recorder.proofs.Rules.{loop_start, loop_more, loop_up, loop_end}
 use Rattle.member_queries.specs.Members.{types_step}

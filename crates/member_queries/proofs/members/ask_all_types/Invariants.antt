@@ -1,5 +1,5 @@
 use Rattle.std.proofs.Common.{[], ◌++◌, map, drop}
-use Rattle.mj_answer.specs.Order.{NameBefore, IsAscendingBy}
+use Rattle.ordered_names.specs.Order.{NameBefore, IsAscendingBy}
 use Rattle.recorder.specs.Programs.{LoopAt}
 use Rattle.member_queries.specs.Members.{types_step}
 use Rattle.member_queries.specs.MemberTables.{member_name_view}

@@ -1,5 +1,5 @@
 use Rattle.std.proofs.Common.{◌≡◌, rules, sym, ap, subst, ◌∙◌}
-use Rattle.mj_answer.specs.Order.{IsAscendingByName}
+use Rattle.ordered_names.specs.Order.{IsAscendingByName}
 use Rattle.recorder.specs.Programs.{GivesUp}
 use Rattle.member_queries.specs.Members.{nearest_methods, table_steps}
 use Rattle.member_queries.specs.MemberTables.{member_name_view, member_names_view}

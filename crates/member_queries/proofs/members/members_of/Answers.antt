@@ -1,5 +1,6 @@
 use Rattle.std.proofs.Common.{sym, subst}
-use Rattle.mj_answer.specs.Order.{IsAscendingByName, IsTableInOrder}
+use Rattle.ordered_names.specs.Order.{IsAscendingByName}
+use Rattle.mj_answer.specs.Order.{IsTableInOrder}
 use Rattle.member_queries.proofs.MemberTables.{fields_ascend}
 use Rattle.member_queries.proofs.members.members_of.Goals as goal
 

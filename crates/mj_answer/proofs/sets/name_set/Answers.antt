@@ -1,6 +1,6 @@
 use Rattle.std.specs.Ordering.{nat_cmp}
 use Rattle.std.specs.Cmp.Lexicographic.{slice_cmp}
-use Rattle.mj_answer.specs.Order.{NameBefore}
+use Rattle.ordered_names.specs.Order.{NameBefore}
 use Rattle.mj_answer.proofs.Compared.{ascends}
 use Rattle.mj_answer.proofs.sets.name_set.Goals as goal
 

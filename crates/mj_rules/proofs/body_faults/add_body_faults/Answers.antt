@@ -3,7 +3,7 @@ use Rattle.mj_tree.specs.Trees.{Method}
 use Rattle.mj_answer.specs.declared.diagnostic.Diagnostic.{Diagnostic}
 use Rattle.mj_members.specs.Classes.{class_ref_view}
 use Rattle.mj_classes.specs.Index.{declared_in}
-use Rattle.mj_project.specs.Repeats.{repeats}
+use Rattle.named_files.specs.Repeats.{repeats}
 use Rattle.mj_rules.specs.FaultLists.{each_numbered, body_faults_of, main_method_faults, method_names, body_faults}
 use Rattle.mj_rules.proofs.body_faults.add_body_faults.Goals as goal
 

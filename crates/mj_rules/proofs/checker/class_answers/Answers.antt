@@ -11,7 +11,7 @@ use Rattle.mj_classes.specs.Index.{declared_in}
 use Rattle.mj_classes.proofs.Climb.{decl_name}
 use Rattle.mj_rules.specs.FaultLists.{class_names}
 use Rattle.mj_rules.specs.Rules.{IsAnswerFor}
-use Rattle.mj_project.proofs.Listed.{contains_at}
+use Rattle.named_files.proofs.Listed.{contains_at}
 use Rattle.mj_rules.proofs.Answering.{is_named}
 use Rattle.mj_rules.proofs.Composing.{class_answers}
 use Rattle.mj_rules.proofs.checker.class_answers.Goals as goal

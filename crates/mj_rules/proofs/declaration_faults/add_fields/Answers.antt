@@ -3,7 +3,7 @@ use Rattle.std.proofs.lemmas.List.{length-map}
 use Rattle.mj_tree.specs.declared.tree.Field.{Field}
 use Rattle.mj_tree.proofs.Positions.{read_at}
 use Rattle.mj_classes.specs.Index.{declared_in}
-use Rattle.mj_project.specs.Repeats.{repeats}
+use Rattle.named_files.specs.Repeats.{repeats}
 use Rattle.mj_rules.specs.FaultLists.{field_faults}
 use Rattle.mj_rules.proofs.Steps.{each_step, flag_read, flag_within}
 use Rattle.mj_rules.proofs.declaration_faults.add_fields.Goals as goal

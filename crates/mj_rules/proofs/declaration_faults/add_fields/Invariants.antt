@@ -1,6 +1,6 @@
 use Rattle.std.proofs.Common.{◌≡◌, ◌++◌, map, drop}
 use Rattle.mj_classes.specs.Index.{declared_in}
-use Rattle.mj_project.specs.Repeats.{repeats}
+use Rattle.named_files.specs.Repeats.{repeats}
 use Rattle.mj_rules.specs.FaultLists.{field_faults, each_numbered}
 use Rattle.mj_rules.proofs.declaration_faults.add_fields.Given as goal
 

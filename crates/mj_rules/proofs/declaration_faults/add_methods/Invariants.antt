@@ -1,7 +1,7 @@
 use Rattle.std.proofs.Common.{◌≡◌, ◌++◌, map, drop}
 use Rattle.mj_tree.specs.Views.{method_view}
 use Rattle.mj_classes.specs.Index.{declared_in}
-use Rattle.mj_project.specs.Repeats.{repeats}
+use Rattle.named_files.specs.Repeats.{repeats}
 use Rattle.mj_members.specs.Classes.{class_ref_view}
 use Rattle.mj_rules.specs.FaultLists.{method_faults_of, nearest_sig, rest_of, each_numbered}
 use Rattle.mj_rules.proofs.declaration_faults.add_methods.Given as goal

@@ -5,7 +5,7 @@ use Rattle.mj_members.specs.Declarations.{ClassDecl}
 use Rattle.mj_classes.specs.Chains.{chain_of}
 use Rattle.mj_members.specs.Classes.{class_ref_view}
 use Rattle.mj_classes.specs.Index.{declared_in}
-use Rattle.mj_project.specs.Repeats.{repeats}
+use Rattle.named_files.specs.Repeats.{repeats}
 use Rattle.mj_rules.specs.FaultLists.{superclass_faults, chain_faults, field_faults, method_faults_of, nearest_sig, rest_of, each_numbered, field_names, method_names, declaration_faults}
 use Rattle.mj_rules.proofs.Steps.{four_parts}
 use Rattle.mj_rules.proofs.declaration_faults.declaration_faults.Goals as goal

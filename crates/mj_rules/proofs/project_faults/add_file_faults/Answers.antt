@@ -1,10 +1,10 @@
 use Rattle.std.proofs.Common.{◌≡◌, ◌||◌, ◌<◌, ◌≤◌, ◌∙◌, length, option_map, ap, sym, arith}
 use Rattle.std.proofs.lemmas.List.{length-map}
 use Rattle.mj_tree.specs.Views.{file_view}
-use Rattle.mj_project.specs.Projects.{source_view, sources_view}
+use Rattle.named_files.specs.Projects.{source_view, sources_view}
 use Rattle.mj_rules.specs.FaultLists.{has_main}
 use Rattle.mj_rules.specs.Sentences.{file_of}
-use Rattle.mj_project.proofs.ProjectLemmas.{file_at, good_at}
+use Rattle.named_files.proofs.ProjectLemmas.{file_at, good_at}
 use Rattle.mj_rules.proofs.Steps.{files_step, files_end, tree_at, tree_within, any_step, any_end}
 use Rattle.mj_rules.proofs.project_faults.add_file_faults.Goals as goal
 use Rattle.mj_rules.proofs.project_faults.add_file_faults.Goals.{then-main_before, else-main_before}

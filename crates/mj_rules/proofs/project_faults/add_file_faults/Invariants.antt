@@ -1,5 +1,5 @@
 use Rattle.std.proofs.Common.{◌≡◌, ◌||◌, ◌++◌, drop, false}
-use Rattle.mj_project.specs.Projects.{sources_view}
+use Rattle.named_files.specs.Projects.{sources_view}
 use Rattle.mj_rules.specs.FaultLists.{any_main, files_faults}
 use Rattle.mj_rules.proofs.project_faults.add_file_faults.Given as goal
 

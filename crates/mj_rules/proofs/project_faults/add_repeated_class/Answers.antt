@@ -1,6 +1,6 @@
 use Rattle.std.proofs.Common.{◌<◌, ◌≤◌, ◌∙◌, length, arith}
-use Rattle.mj_project.specs.Projects.{source_view}
-use Rattle.mj_project.proofs.ProjectLemmas.{file_at, good_at, past_end}
+use Rattle.named_files.specs.Projects.{source_view}
+use Rattle.named_files.proofs.ProjectLemmas.{file_at, good_at, past_end}
 use Rattle.mj_rules.proofs.Steps.{none_added, one_added}
 use Rattle.mj_rules.proofs.project_faults.add_repeated_class.Goals as goal
 

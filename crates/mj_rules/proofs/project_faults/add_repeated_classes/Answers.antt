@@ -1,7 +1,7 @@
 use Rattle.std.proofs.Common.{◌≡◌, ◌<◌, ◌++◌, get_or, true, false, ◌∙◌, ℕ, length, slice_get, ap, ap₂, sym, append-nil, arith}
 use Rattle.mj_members.specs.Classes.{class_ref_view}
 use Rattle.mj_members.specs.Declarations.{ClassDecl}
-use Rattle.mj_project.specs.Projects.{sources_view}
+use Rattle.named_files.specs.Projects.{sources_view}
 use Rattle.mj_rules.specs.FaultLists.{repeated_class, repeated_class_faults}
 use Rattle.mj_rules.proofs.Steps.{flag_is, flag_of_each, named_step, class_file, class_number}
 use Rattle.mj_rules.proofs.project_faults.add_repeated_classes.Goals as goal

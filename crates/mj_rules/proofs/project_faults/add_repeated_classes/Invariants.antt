@@ -1,7 +1,7 @@
 use Rattle.std.proofs.Common.{◌≡◌, ◌++◌, drop}
 use Rattle.mj_members.specs.Classes.{classes_view}
-use Rattle.mj_project.specs.Repeats.{repeats}
-use Rattle.mj_project.specs.Projects.{sources_view}
+use Rattle.named_files.specs.Repeats.{repeats}
+use Rattle.named_files.specs.Projects.{sources_view}
 use Rattle.mj_rules.specs.FaultLists.{class_names, repeated_class_faults, each_numbered}
 use Rattle.mj_rules.proofs.project_faults.add_repeated_classes.Given as goal
 

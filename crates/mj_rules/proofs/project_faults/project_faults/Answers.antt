@@ -2,7 +2,7 @@ use Rattle.std.proofs.Common.{◌≡◌, ◌∙◌, ◌++◌, false, true, not, 
 use Rattle.std.proofs.lemmas.Bool.Decides.{nat_tests}
 use Rattle.mj_tree.specs.declared.place.Place.TheVariants.{Project}
 use Rattle.mj_answer.specs.declared.code.Code.TheVariants.{E102}
-use Rattle.mj_project.specs.Repeats.{repeats}
+use Rattle.named_files.specs.Repeats.{repeats}
 use Rattle.mj_rules.specs.Sentences.{classes_in}
 use Rattle.mj_rules.specs.FaultLists.{any_main, files_faults, repeated_class_faults, class_names, each_numbered, when_fault, project_faults}
 use Rattle.mj_rules.proofs.Steps.{three_parts, main_added}

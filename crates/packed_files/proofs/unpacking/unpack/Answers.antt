@@ -1,6 +1,6 @@
 use Rattle.std.proofs.Common.{ap, arith}
 use Rattle.std.proofs.lemmas.Result.{err_from_is_err_and}
-use Rattle.mj_project.specs.Projects.{sources_view}
+use Rattle.named_files.specs.Projects.{sources_view}
 use Rattle.packed_files.proofs.Steps.{ended, goes_on, none_yet, one_more, only_memory, same_files, shorter}
 use Rattle.packed_files.proofs.unpacking.unpack.Goals as goal
 

@@ -1,5 +1,5 @@
 use Rattle.std.proofs.Common.{length}
-use Rattle.mj_project.specs.Projects.{sources_view}
+use Rattle.named_files.specs.Projects.{sources_view}
 use Rattle.packed_files.proofs.Steps.{IsUnpackedTo}
 use Rattle.packed_files.proofs.unpacking.unpack.Given as goal
 

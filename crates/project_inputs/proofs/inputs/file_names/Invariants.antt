@@ -1,5 +1,5 @@
 use Rattle.std.proofs.Common.{◌≡◌, map, take}
-use Rattle.mj_project.specs.Projects.{source_view, names_of}
+use Rattle.named_files.specs.Projects.{source_view, names_of}
 use Rattle.project_inputs.proofs.inputs.file_names.Given as goal
 
 abbrev pub invariant-loop-name : goal.invariant-loop-name

@@ -1,6 +1,6 @@
 use Rattle.std.proofs.Common.{sym, ap, ◌∙◌, subst}
 use Rattle.result_bytes.specs.Storable.{AreDistinctNames}
-use Rattle.mj_project.specs.Projects.{names_of}
+use Rattle.named_files.specs.Projects.{names_of}
 use Rattle.project_inputs.proofs.InputRules.{distinct_names}
 use Rattle.project_inputs.proofs.inputs.files_result.Goals as goal
 

@@ -1,6 +1,6 @@
 use Rattle.std.proofs.Common.{◌≡◌, map, take}
 use Rattle.std.specs.List.{AllByRecursion}
-use Rattle.mj_project.specs.Projects.{source_view}
+use Rattle.named_files.specs.Projects.{source_view}
 use Rattle.project_inputs.specs.Inputs.{file_of, IsSource}
 use Rattle.project_inputs.proofs.inputs.sources_of.Given as goal
 

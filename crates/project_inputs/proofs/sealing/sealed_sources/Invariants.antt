@@ -1,5 +1,5 @@
 use Rattle.std.proofs.Common.{map, take}
-use Rattle.mj_project.specs.Projects.{source_view}
+use Rattle.named_files.specs.Projects.{source_view}
 use Rattle.project_inputs.specs.Inputs.{AreSourcesOf}
 use Rattle.project_inputs.proofs.sealing.sealed_sources.Given as goal
 

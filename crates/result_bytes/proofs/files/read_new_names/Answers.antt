@@ -2,7 +2,7 @@ use Rattle.std.proofs.Common.{◌≡◌, ℕ, List, [], ◌∷◌, ◌++◌, sym
 use Rattle.std.proofs.lemmas.Result.{err_from_is_err_and}
 use Rattle.byte_readers.specs.Reading.{name_at}
 use Rattle.byte_readers.proofs.Loop.{goes_on, is_refused, ends, is_done}
-use Rattle.mj_project.proofs.RepeatLemmas.{names-insert}
+use Rattle.named_files.proofs.RepeatLemmas.{names-insert}
 use Rattle.result_bytes.specs.Reading.{is_new}
 use Rattle.result_bytes.proofs.files.read_new_names.Goals as goal
 

@@ -1,6 +1,6 @@
 use Rattle.std.proofs.Common.{◌≡◌, ◌-◌, []}
 use Rattle.byte_readers.specs.Reading.{list_from, name_at}
-use Rattle.mj_project.proofs.RepeatLemmas.{HasNames}
+use Rattle.named_files.proofs.RepeatLemmas.{HasNames}
 use Rattle.result_bytes.specs.Reading.{is_new}
 use Rattle.result_bytes.proofs.files.read_new_names.Given as goal
 

@@ -7,7 +7,7 @@ use Rattle.mj_phrases.specs.Table.{Scope, phrase_of, own_phrase, return_phrase}
 use Rattle.mj_phrases.specs.Cases.{HasTypeByCases}
 use Rattle.mj_phrases.proofs.Agree.{typed, has, one_type}
 use Rattle.mj_phrases.proofs.ByCases.{by_cases, from_cases}
-use Rattle.mj_project.specs.Projects.{SourceFile}
+use Rattle.named_files.specs.Projects.{SourceFile}
 use Rattle.rule_laws.specs.Demands.{BodyPhrase, OfExpression, OfStatement, OfReturn}
 use Rattle.rule_laws.specs.Faults.{IsWell}
 use Rattle.rule_laws.specs.Typing.{world_in, IsScopeIn, HasTypeIn, IsWellIn}

@@ -1,5 +1,5 @@
 use Rattle.std.proofs.Common.{◌∙◌, subst, sym}
-use Rattle.mj_answer.specs.Order.{IsAscendingByName}
+use Rattle.ordered_names.specs.Order.{IsAscendingByName}
 use Rattle.result_bytes.specs.declared.files.IndexRow.{IndexRow}
 use Rattle.text_queries.proofs.Firsts.{ordered_entries}
 use Rattle.text_queries.proofs.FirstRows.{first_are, first_ascend}

@@ -1,7 +1,7 @@
 use Rattle.std.proofs.Common.{◌≡◌, ◌<◌, ◌∙◌, true, false, length, map, sym, refl, arith}
 use Rattle.std.specs.Arc.{arc_value}
 use Rattle.std.proofs.lemmas.List.{length-map}
-use Rattle.mj_project.specs.Projects.{sources_view}
+use Rattle.named_files.specs.Projects.{sources_view}
 use Rattle.audit_replay.proofs.AgainstRules.{viewed_length}
 use Rattle.audit_replay.proofs.InputRules.{alike_long, alike_there, next_alike}
 use Rattle.audit_replay.proofs.sum.files.are_alike.Goals as goal

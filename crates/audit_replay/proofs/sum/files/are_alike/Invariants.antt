@@ -1,6 +1,6 @@
 use Rattle.std.proofs.Common.{◌≡◌, map, take, length}
 use Rattle.std.specs.Arc.{arc_value}
-use Rattle.mj_project.specs.Projects.{sources_view}
+use Rattle.named_files.specs.Projects.{sources_view}
 use Rattle.audit_replay.specs.Projects.{AreFilesAlike}
 use Rattle.audit_replay.proofs.sum.files.are_alike.Given as goal
 

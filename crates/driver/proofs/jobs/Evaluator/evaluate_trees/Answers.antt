@@ -1,5 +1,5 @@
 use Rattle.std.proofs.Common.{◌<◌, length, sym, subst}
-use Rattle.mj_project.specs.Projects.{IsProject}
+use Rattle.named_files.specs.Projects.{IsProject}
 use Rattle.project_inputs.proofs.InputRules.{good_name}
 use Rattle.driver.proofs.jobs.Evaluator.evaluate_trees.Goals as goal
 

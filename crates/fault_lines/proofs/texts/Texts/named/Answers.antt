@@ -1,5 +1,5 @@
 use Rattle.std.proofs.Common.{◌∙◌, List, None, Some, slice_get, sym, ap}
-use Rattle.mj_project.specs.Projects.{SourceFile}
+use Rattle.named_files.specs.Projects.{SourceFile}
 use Rattle.fault_lines.specs.FaultLines.{file_named}
 use Rattle.std.specs.Str.{bytes_eq}
 use Rattle.mj_tree.proofs.Positions.{find_from_position}

@@ -1,6 +1,6 @@
 use Rattle.std.proofs.Common.{◌∙◌, ap, map, string_bytes}
 use Rattle.std.proofs.lemmas.Result.{IfOk-weaker}
-use Rattle.mj_project.specs.Projects.{names_of, sources_view}
+use Rattle.named_files.specs.Projects.{names_of, sources_view}
 use Rattle.program_run.specs.Failures.{CheckFails}
 use Rattle.program_run.specs.declared.failure.Failure.TheVariants as failure
 use Rattle.program_run.proofs.Failures.{told_as}

@@ -1,5 +1,5 @@
 use Rattle.std.proofs.Common.{refl}
-use Rattle.mj_project.specs.Projects.{names_of}
+use Rattle.named_files.specs.Projects.{names_of}
 use Rattle.program_run.specs.Failures.{CheckFails}
 use Rattle.program_run.specs.Unread.{cache_failure}
 use Rattle.program_run.proofs.Failures.{cache_check, no_place, not_written, told_as}

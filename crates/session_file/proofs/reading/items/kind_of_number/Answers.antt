@@ -1,4 +1,4 @@
-use Rattle.session_file.proofs.KeyLaws.{kind_found}
+use Rattle.item_ids.proofs.Numbers.{kind_found}
 use Rattle.session_file.proofs.reading.items.kind_of_number.Goals as goal
 
 pub returns : goal.returns
