@@ -20,6 +20,6 @@ pub use making::{
     BothTerms, Edit, Made, made_by, made_of_empty_classes, made_while_held, workers_meet,
 };
 pub use pairs::seats_meet;
-pub use runs::{Runs, digest_by, fault_of_failing, runs_in, runs_of};
+pub use runs::{Runs, Steps, digest_by, fault_of_failing, runs_in, runs_of};
 pub use seats::{all_stop, fellows_stop};
 pub use workers::{fault_of_worker, run_again};

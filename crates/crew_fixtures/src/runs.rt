@@ -11,7 +11,7 @@ use crate::files::{File, project_of};
 use crate::hooks::{Counting, Hooked};
 use crate::making::share;
 use answer_fixtures::Unfit;
-use mini_java::{Crew, DriveFault, Open, Reports, drive};
+use mini_java::{ClassJobs, Crew, DriveFault, Open, Reports, drive};
 use named_files::Project;
 use session_file::digest;
 use sessions::{Mark, Session};
@@ -27,7 +27,24 @@ pub struct Runs {
     pub executed: usize,
 }
 
-/// Makes a session of a project over the previous one by a crew, and counts its runs. Where the number of a run, from 0, is
+/// How many workers make a session, and the step by which they go through each list of jobs, which leaves none out if
+/// it is 1.
+#[derive(Clone, Copy)]
+pub struct Steps {
+    pub workers: usize,
+    pub step: usize,
+}
+
+impl Steps {
+    /// This many workers, none of whom leaves out a job.
+    pub fn of(workers: usize) -> Self
+        ensures { result.workers ≡ workers }
+    {
+        Steps { workers, step: 1 }
+    }
+}
+
+/// Makes a session of a project over the previous one by these workers, and counts its runs. Where the number of a run, from 0, is
 /// given, this run is out of memory.
 fn drive_counted<T: Threads + Wait + Sync>(
     rt: &T,
@@ -36,9 +53,9 @@ fn drive_counted<T: Threads + Wait + Sync>(
     failing: Option<u64>,
     past: Option<Arc<Session>>,
     project: &Project,
-    crew: Crew,
+    steps: Steps,
 ) -> Result<(Session, Reports), DriveFault>
-    ensures gives { DriveGives queries first_terms (session_in past) project.now crew.workers
+    ensures gives { DriveGives queries first_terms (session_in past) project.now steps.workers
         result }
 {
     drive(
@@ -47,7 +64,10 @@ fn drive_counted<T: Threads + Wait + Sync>(
         &|| Hooked::new(alloc, Counting { runs, failing }),
         past,
         project,
-        crew,
+        Crew {
+            workers: steps.workers,
+            jobs: &ClassJobs::new(steps.step),
+        },
         &Open,
     )
 }
@@ -62,7 +82,7 @@ fn counted_over<T: Threads + Wait + Sync>(
     ensures { IfOk result (λ both. HasExecuted (session_in past) project.now both.0 both.1) }
 {
     let runs = AtomicU64::new(0);
-    match drive_counted(rt, alloc, &runs, None, past, project, Crew::of(1)) {
+    match drive_counted(rt, alloc, &runs, None, past, project, Steps::of(1)) {
         Ok((session, _)) => {
             let executed = session.count(Mark::Executed);
             Ok((
@@ -139,25 +159,25 @@ pub fn fault_of_failing<T: Threads + Wait + Sync>(
         Some(failing),
         None,
         &project,
-        Crew::of(workers),
+        Steps::of(workers),
     ) {
         Ok(_) => Ok(None),
         Err(fault) => Ok(Some(fault)),
     }
 }
 
-/// The SHA-256 of the file of a first session of this file by a crew.
+/// The SHA-256 of the file of a first session of this file by these workers.
 pub fn digest_by<T: Threads + Wait + Sync>(
     rt: &T,
     alloc: Global,
     file: File,
-    crew: Crew,
+    steps: Steps,
 ) -> Result<[u8; 32], Unfit>
-    ensures { IfOk result (IsDigestOf (source_file file ∷ []) crew.workers) }
+    ensures { IfOk result (IsDigestOf (source_file file ∷ []) steps.workers) }
 {
     let project = project_of(alloc, &[file])?;
     let runs = AtomicU64::new(0);
-    match drive_counted(rt, alloc, &runs, None, None, &project, crew) {
+    match drive_counted(rt, alloc, &runs, None, None, &project, steps) {
         Ok((session, _)) => Ok(digest(&session)),
         Err(_) => Err(Unfit),
     }

@@ -8,7 +8,7 @@ use crate::files::project_with;
 use crate::hooks::{Hook, Hooked};
 use answer_fixtures::{Unfit, project_of};
 use item_ids::Key;
-use mini_java::{Crew, DriveFault, Open, drive, run_session_as};
+use mini_java::{ClassJobs, Crew, DriveFault, Open, drive, run_session_as};
 use named_files::Project;
 use session_file::digest;
 use session_fixtures::twice;
@@ -109,7 +109,10 @@ pub fn fault_of_worker<T: Threads + Wait + Sync>(
         &|| Hooked::new(alloc, OneFails::new(&team)),
         None,
         &project,
-        Crew::of(workers),
+        Crew {
+            workers,
+            jobs: &ClassJobs::new(1),
+        },
         &Open,
     ) {
         Ok(_) => Ok(None),

@@ -3,10 +3,9 @@
 use crate::texts::{COVARIANT, EDITED, ONE, TWO};
 use answer_fixtures::Unfit;
 use crew_fixtures::{
-    BothTerms, Edit, File, Made, digest_by, fault_of_failing, fellows_stop, made_by,
+    BothTerms, Edit, File, Made, Steps, digest_by, fault_of_failing, fellows_stop, made_by,
     made_of_empty_classes, made_while_held, seats_meet, workers_meet,
 };
-use driver::Crew;
 use item_ids::Kind;
 use mini_java::DriveFault;
 use profiles::Profile;
@@ -296,21 +295,21 @@ fn where_none_fails_there_is_a_session(rt: HostRuntime) {
     assert!(rt; fault_of_failing(&rt, rt.alloc(), MAIN, 1, 10) == Ok(None));
 }
 
-/// Crews that leave jobs out: how many workers there are, and by how many jobs each goes on.
-const LEAVING: &[Crew] = &[
-    Crew {
+/// Workers who leave jobs out: how many workers there are, and by how many jobs each goes on.
+const LEAVING: &[Steps] = &[
+    Steps {
         workers: 1,
         step: 2,
     },
-    Crew {
+    Steps {
         workers: 2,
         step: 2,
     },
-    Crew {
+    Steps {
         workers: 8,
         step: 3,
     },
-    Crew {
+    Steps {
         workers: 8,
         step: 0,
     },
@@ -320,10 +319,10 @@ const LEAVING: &[Crew] = &[
 #[test]
 fn left_out_jobs_are_done(rt: HostRuntime) {
     let file = File("M.java", TWO);
-    let each = digest_by(&rt, rt.alloc(), file, Crew::of(1));
+    let each = digest_by(&rt, rt.alloc(), file, Steps::of(1));
     assert!(rt; each.is_ok());
-    for crew in LEAVING {
-        assert!(rt; digest_by(&rt, rt.alloc(), file, *crew) == each);
+    for steps in LEAVING {
+        assert!(rt; digest_by(&rt, rt.alloc(), file, *steps) == each);
     }
 }
 

@@ -5,10 +5,10 @@ ghost use Rattle.next_sessions.specs.Nexts.{StandsApart, IsNextSession};
 ghost use Rattle.shared_table.specs.Opened.{IsOpenedFor};
 ghost use Rattle.driver.specs.Sessions.{DriveGives, IsSessionOf};
 
-use crate::crew::{Jobs, make_workers, work_alone};
+use crate::crew::{Work, make_workers, work_alone};
 use crate::fault::DriveFault;
+use crate::jobs::Jobs;
 use crate::laws::sessions_are_next;
-use crate::lists::Lists;
 use crate::reports::Reports;
 use crate::session::{Basis, end, keeps_laws, past_is_session};
 use named_files::Project;
@@ -20,11 +20,12 @@ use std::marker::Brand;
 
 /// Makes one session of a project, of these terms over the previous session, as `drive_as` does by a crew of one worker.
 /// It starts no thread, and waits for none.
-pub fn drive_alone<R: Runner + Drop, F: Fn() -> R, G: Gate>(
+pub fn drive_alone<R: Runner + Drop, F: Fn() -> R, W: Jobs, G: Gate>(
     alloc: Global,
     make: &F,
     basis: Basis,
     project: &Project,
+    jobs: &W,
     gate: &G,
 ) -> Result<(Session, Reports), DriveFault>
     requires { F.IsAlwaysCallable make.now }
@@ -41,14 +42,13 @@ pub fn drive_alone<R: Runner + Drop, F: Fn() -> R, G: Gate>(
     sessions_are_next();
     match Table::open_as(alloc, past, project, terms) {
         Ok(table) => {
-            let lists = Lists::new(1);
-            let jobs = Jobs {
+            let work = Work {
                 project,
-                lists: &lists,
+                jobs,
                 gate,
             };
             let opening = Opening::new(table, 1);
-            let done = drive_table::<Brand, R, F, G>(alloc, make, opening, &jobs)?;
+            let done = drive_table::<Brand, R, F, W, G>(alloc, make, opening, &work)?;
             // A session keeps in its type what its records are.
             let _records = done.0.records();
             Ok(done)
@@ -59,11 +59,11 @@ pub fn drive_alone<R: Runner + Drop, F: Fn() -> R, G: Gate>(
 }
 
 /// Does all jobs at a table that was just opened, by one worker, and closes it.
-fn drive_table<J: Naming, R: Runner + Drop, F: Fn() -> R, G: Gate>(
+fn drive_table<J: Naming, R: Runner + Drop, F: Fn() -> R, W: Jobs, G: Gate>(
     alloc: Global,
     make: &F,
     opening: Opening<R>,
-    jobs: &Jobs<'_, G>,
+    work: &Work<'_, W, G>,
 ) -> Result<(Session, Reports), AllocError>
     requires makes { F.IsAlwaysCallable make.now }
     requires opened { IsOpenedFor J.name J.parts J.book J.opened opening }
@@ -73,6 +73,6 @@ fn drive_table<J: Naming, R: Runner + Drop, F: Fn() -> R, G: Gate>(
 {
     let (counted, mut all, _list) = opening.named::<J>();
     let mut team = make_workers::<J, R, F>(alloc, &mut all, 1, make)?;
-    let counted = work_alone(counted, jobs, &mut team[0]);
+    let counted = work_alone(counted, work, &mut team[0]);
     end(alloc, all, team, counted)
 }

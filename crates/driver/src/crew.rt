@@ -1,8 +1,7 @@
 //! The workers of a session, each in a thread of its own.
 ghost use Rattle.std.specs.Prelude.{◌≡◌, ◌+◌, ◌<◌, ◌≤◌, IfOk, sum, vec_len};
 
-use crate::jobs::do_jobs;
-use crate::lists::Lists;
+use crate::jobs::{Jobs, do_jobs};
 use known_list::Opened;
 use named_files::Project;
 use recorder::{Read, Runner};
@@ -13,30 +12,20 @@ use std::sync::ledger::Share;
 use std::thread;
 use std::thread::Threads;
 
-/// The workers that make a session.
-#[derive(Clone, Copy)]
-pub struct Crew {
+/// The workers that make a session, and what they evaluate ahead of its answer.
+#[derive(Drop)]
+pub struct Crew<'a, W> {
     /// How many workers there are, each in a thread of its own.
     pub workers: usize,
-    /// The step by which they go through each list of jobs. A job that is left out is done when another one reads its
-    /// result.
-    pub step: usize,
+    /// The jobs, of which none is taken yet.
+    pub jobs: &'a W,
 }
 
-impl Crew {
-    /// This many workers, none of whom leaves out a job.
-    pub fn of(workers: usize) -> Self
-        ensures { result.workers ≡ workers }
-    {
-        Crew { workers, step: 1 }
-    }
-}
-
-/// The jobs of a session: its project, which of them are taken, and the gate that is called around each run.
+/// What workers work on: the project, its jobs, and the gate that is called around each run.
 #[derive(Drop)]
-pub(crate) struct Jobs<'a, G> {
+pub(crate) struct Work<'a, W, G> {
     pub project: &'a Project,
-    pub lists: &'a Lists,
+    pub jobs: &'a W,
     pub gate: &'a G,
 }
 
@@ -84,13 +73,14 @@ pub(crate) fn make_workers<J: Naming, R: Runner + Drop, F: Fn() -> R>(
 pub(crate) fn work_at<
     J: Naming + Send + Sync,
     R: Runner + Drop + Send + Sync,
+    W: Jobs + Sync,
     G: Gate + Sync,
     T: Threads + Wait + Sync,
 >(
     rt: &T,
     counted: Counted<J, R>,
     list: Opened<Read>,
-    jobs: &Jobs<'_, G>,
+    work: &Work<'_, W, G>,
     team: &mut Vec<Member<J, R>>,
 ) -> Result<Counted<J, R>, AllocError>
     requires team { 0 < vec_len team.old }
@@ -98,17 +88,17 @@ pub(crate) fn work_at<
     ensures { vec_len team.new ≡ vec_len team.old }
 {
     if team.len() == 1 {
-        return Ok(work_alone(counted, jobs, &mut team[0]));
+        return Ok(work_alone(counted, work, &mut team[0]));
     }
     let shared = Shared::new(counted, list)?;
-    work_all(rt, &shared, jobs, team);
+    work_all(rt, &shared, work, team);
     Ok(shared.into_counted())
 }
 
 /// A worker does all jobs at a table of its own.
-pub(crate) fn work_alone<J: Naming, R: Runner, G: Gate>(
+pub(crate) fn work_alone<J: Naming, R: Runner, W: Jobs, G: Gate>(
     counted: Counted<J, R>,
-    jobs: &Jobs<'_, G>,
+    work: &Work<'_, W, G>,
     worker: &mut Member<J, R>,
 ) -> Counted<J, R> {
     let mut counted = counted;
@@ -118,8 +108,8 @@ pub(crate) fn work_alone<J: Naming, R: Runner, G: Gate>(
         runner,
         tally,
     } = worker;
-    let mut seat = Alone::new(&mut counted, tally, jobs.gate);
-    do_jobs(*alloc, &mut seat, runner, jobs.project, jobs.lists, *number);
+    let mut seat = Alone::new(&mut counted, tally, work.gate);
+    do_jobs(*alloc, &mut seat, runner, work.project, work.jobs, *number);
     counted
 }
 
@@ -127,34 +117,35 @@ pub(crate) fn work_alone<J: Naming, R: Runner, G: Gate>(
 fn work_all<
     J: Naming + Send + Sync,
     R: Runner + Drop + Send + Sync,
+    W: Jobs + Sync,
     G: Gate + Sync,
     T: Threads + Wait + Sync,
->(rt: &T, shared: &Shared<J, R>, jobs: &Jobs<'_, G>, team: &mut Vec<Member<J, R>>)
+>(rt: &T, shared: &Shared<J, R>, work: &Work<'_, W, G>, team: &mut Vec<Member<J, R>>)
     requires { 0 < vec_len team.old }
     ensures { vec_len team.new ≡ vec_len team.old }
 {
     let workers = team.len();
-    let (project, lists, gate) = (jobs.project, jobs.lists, jobs.gate);
+    let (project, jobs, gate) = (work.project, work.jobs, work.gate);
     thread::for_each_mut(
         rt,
         team.as_mut_slice(),
         workers,
         &|_, worker| {
-            let jobs = Jobs {
+            let part = Work {
                 project,
-                lists,
+                jobs,
                 gate,
             };
-            work(rt, shared, &jobs, worker)
+            work_at_seat(rt, shared, &part, worker)
         },
     );
 }
 
 /// A worker does its jobs at its seat.
-fn work<J: Naming, R: Runner, G: Gate, T: Wait>(
+fn work_at_seat<J: Naming, R: Runner, W: Jobs, G: Gate, T: Wait>(
     rt: &T,
     shared: &Shared<J, R>,
-    jobs: &Jobs<'_, G>,
+    work: &Work<'_, W, G>,
     worker: &mut Member<J, R>,
 ) {
     let Member {
@@ -163,8 +154,8 @@ fn work<J: Naming, R: Runner, G: Gate, T: Wait>(
         runner,
         tally,
     } = worker;
-    let mut seat = shared.seat(*alloc, rt, jobs.gate, tally);
-    do_jobs(*alloc, &mut seat, runner, jobs.project, jobs.lists, *number);
+    let mut seat = shared.seat(*alloc, rt, work.gate, tally);
+    do_jobs(*alloc, &mut seat, runner, work.project, work.jobs, *number);
 }
 
 /// How many events each worker made, by its number. Their shares are joined again.

@@ -7,7 +7,7 @@ mod crew;
 mod fault;
 mod jobs;
 mod laws;
-mod lists;
+mod numbers;
 mod reports;
 mod session;
 
@@ -15,7 +15,9 @@ pub use alone::drive_alone;
 pub use changes::changed_files;
 pub use crew::Crew;
 pub use fault::DriveFault;
+pub use jobs::{Evaluate, Jobs, Undone};
 pub use laws::{made_sessions_are_one, refusals_are_exact, sessions_are_next};
+pub use numbers::Numbers;
 pub use reports::Reports;
 pub use session::{Basis, drive, drive_as};
 pub use shared_table::{Gate, Open, Shared};

@@ -11,10 +11,10 @@ ghost use Rattle.next_sessions.specs.Nexts.{StandsApart, IsNextSession};
 ghost use Rattle.shared_table.specs.Opened.{IsOpenedFor};
 ghost use Rattle.driver.specs.Sessions.{IsCrew, DriveGives, IsSessionOf};
 
-use crate::crew::{Crew, Jobs, Member, join_counts, make_workers, work_at};
+use crate::crew::{Crew, Member, Work, join_counts, make_workers, work_at};
 use crate::fault::DriveFault;
+use crate::jobs::Jobs;
 use crate::laws::sessions_are_next;
-use crate::lists::Lists;
 use crate::reports::Reports;
 use named_files::Project;
 use recorder::Runner;
@@ -37,6 +37,7 @@ pub struct Basis {
 pub fn drive<
     R: Runner + Drop + Send + Sync,
     F: Fn() -> R,
+    W: Jobs + Sync,
     G: Gate + Sync,
     T: Threads + Wait + Sync,
 >(
@@ -45,7 +46,7 @@ pub fn drive<
     make: &F,
     prev: Option<Arc<Session>>,
     project: &Project,
-    crew: Crew,
+    crew: Crew<'_, W>,
     gate: &G,
 ) -> Result<(Session, Reports), DriveFault>
     requires { F.IsAlwaysCallable make.now }
@@ -66,6 +67,7 @@ pub fn drive<
 pub fn drive_as<
     R: Runner + Drop + Send + Sync,
     F: Fn() -> R,
+    W: Jobs + Sync,
     G: Gate + Sync,
     T: Threads + Wait + Sync,
 >(
@@ -74,7 +76,7 @@ pub fn drive_as<
     make: &F,
     basis: Basis,
     project: &Project,
-    crew: Crew,
+    crew: Crew<'_, W>,
     gate: &G,
 ) -> Result<(Session, Reports), DriveFault>
     requires { F.IsAlwaysCallable make.now }
@@ -84,7 +86,7 @@ pub fn drive_as<
     ensures next { IfOk result (λ done. StandsApart R.queries (session_in basis.past) done.0
         → IsNextSession R.queries basis.terms (session_in basis.past) project.now done.0) }
 {
-    let Crew { workers, step } = crew;
+    let Crew { workers, jobs } = crew;
     let Basis { terms, past } = basis;
     if !is_crew(workers) {
         return Err(DriveFault::Workers);
@@ -96,14 +98,15 @@ pub fn drive_as<
     sessions_are_next();
     match Table::open_by(rt, alloc, past, project, terms, workers) {
         Ok(table) => {
-            let lists = Lists::new(step);
-            let jobs = Jobs {
+            let work = Work {
                 project,
-                lists: &lists,
+                jobs,
                 gate,
             };
             let opening = Opening::new(table, workers as u64);
-            let done = drive_table::<Brand, R, F, G, T>(rt, alloc, make, opening, &jobs, workers)?;
+            let done = drive_table::<Brand, R, F, W, G, T>(
+                rt, alloc, make, opening, &work, workers,
+            )?;
             // A session keeps in its type what its records are.
             let _records = done.0.records();
             Ok(done)
@@ -139,6 +142,7 @@ fn drive_table<
     J: Naming + Send + Sync,
     R: Runner + Drop + Send + Sync,
     F: Fn() -> R,
+    W: Jobs + Sync,
     G: Gate + Sync,
     T: Threads + Wait + Sync,
 >(
@@ -146,7 +150,7 @@ fn drive_table<
     alloc: Global,
     make: &F,
     opening: Opening<R>,
-    jobs: &Jobs<'_, G>,
+    work: &Work<'_, W, G>,
     workers: usize,
 ) -> Result<(Session, Reports), AllocError>
     requires makes { F.IsAlwaysCallable make.now }
@@ -158,7 +162,7 @@ fn drive_table<
 {
     let (counted, mut all, list) = opening.named::<J>();
     let mut team = make_workers::<J, R, F>(alloc, &mut all, workers, make)?;
-    let counted = work_at(rt, counted, list, jobs, &mut team)?;
+    let counted = work_at(rt, counted, list, work, &mut team)?;
     end(alloc, all, team, counted)
 }
 

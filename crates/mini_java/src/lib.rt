@@ -4,7 +4,9 @@
 
 mod audit;
 mod auditor;
+mod jobs;
 mod laws;
+mod lists;
 mod session;
 
 pub use audit::{audit_chain, audit_chain_against, audited_answer};
@@ -12,5 +14,6 @@ pub use audit_replay::Audited;
 pub use auditor::ChainAuditor;
 pub use driver::{Crew, DriveFault, Gate, Open, Reports, Shared, drive};
 pub use laws::{accepted_are_the_rules, accepted_chains_are_the_rules};
+pub use lists::ClassJobs;
 pub use providers::MiniJava;
 pub use session::{run_session, run_session_alone, run_session_as};

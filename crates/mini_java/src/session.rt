@@ -6,6 +6,7 @@ ghost use Rattle.sessions.specs.Sessions.{session_in};
 ghost use Rattle.next_sessions.specs.Nexts.{StandsApart, IsNextSession};
 ghost use Rattle.driver.specs.Sessions.{DriveGives};
 
+use crate::lists::ClassJobs;
 use driver::{Basis, Crew, DriveFault, Gate, Reports, drive_alone, drive_as};
 use named_files::Project;
 use providers::MiniJava;
@@ -52,7 +53,10 @@ pub fn run_session_as<G: Gate + Sync, T: Threads + Wait + Sync>(
         &|| MiniJava::new(alloc),
         Basis { terms, past: prev },
         project,
-        Crew::of(workers),
+        Crew {
+            workers,
+            jobs: &ClassJobs::new(1),
+        },
         gate,
     )
 }
@@ -71,5 +75,12 @@ pub fn run_session_alone<G: Gate>(
         → IsNextSession queries terms (session_in prev) project.now done.0) }
 {
     let basis = Basis { terms, past: prev };
-    drive_alone(alloc, &|| MiniJava::new(alloc), basis, project, gate)
+    drive_alone(
+        alloc,
+        &|| MiniJava::new(alloc),
+        basis,
+        project,
+        &ClassJobs::new(1),
+        gate,
+    )
 }

@@ -1,7 +1,7 @@
 use Rattle.std.proofs.Common.{◌<◌, length, sym, subst}
 use Rattle.named_files.specs.Projects.{IsProject}
 use Rattle.project_inputs.proofs.InputRules.{good_name}
-use Rattle.driver.proofs.jobs.Evaluator.evaluate_trees.Goals as goal
+use Rattle.mini_java.proofs.jobs.Worker.evaluate_trees.Goals as goal
 
 pub evaluate_tree-requires-clause-some : goal.evaluate_tree-requires-clause-some
 evaluate_tree-requires-clause-some g c =

@@ -1,31 +1,7 @@
-//! Which jobs of a session are taken.
+//! Which jobs of a session of a MiniJava project are taken.
 ghost use Rattle.std.specs.Prelude.{◌<◌, IfSome};
 
-use std::sync::atomic::{AtomicUsize, Ordering};
-
-/// The numbers of the jobs of one list, from 0, each given to one worker. Leaving some out or giving some twice changes
-/// only who does what.
-#[derive(Drop)]
-pub(crate) struct Numbers {
-    next: AtomicUsize,
-}
-
-impl Numbers {
-    /// No number is given yet.
-    fn new() -> Self {
-        Numbers {
-            next: AtomicUsize::new(0),
-        }
-    }
-
-    /// The number of the next job, or `None` past the last of so many. The one after it is greater by the step.
-    pub(crate) fn take(&self, jobs: usize, step: usize) -> Option<usize>
-        ensures { IfSome result (λ at. at < jobs) }
-    {
-        let at = self.next.fetch_add(step, Ordering::SeqCst);
-        if at < jobs { Some(at) } else { None }
-    }
-}
+use driver::Numbers;
 
 /// What is evaluated of each class of the index, in the order of the ranks: what a pass reads of the classes is done by
 /// the passes before it.
@@ -43,8 +19,9 @@ pub(crate) enum Pass {
     Diags,
 }
 
-/// The lists of jobs of a session: the trees of the files, and each pass over the classes. They take no memory.
-pub(crate) struct Lists {
+/// The keys that workers evaluate ahead of the answer, in lists: the trees of the files, and each pass over the classes.
+/// They take no memory.
+pub struct ClassJobs {
     step: usize,
     trees: Numbers,
     headers: Numbers,
@@ -54,9 +31,9 @@ pub(crate) struct Lists {
     diags: Numbers,
 }
 
-impl Drop for Lists {
+impl Drop for ClassJobs {
     fn drop(self) {
-        let Lists {
+        let ClassJobs {
             step: _,
             trees: _,
             headers: _,
@@ -68,10 +45,10 @@ impl Drop for Lists {
     }
 }
 
-impl Lists {
+impl ClassJobs {
     /// No job is taken yet. Each list is gone through by this step, which is 1 if none is to be left out.
-    pub(crate) fn new(step: usize) -> Self {
-        Lists {
+    pub fn new(step: usize) -> Self {
+        ClassJobs {
             step,
             trees: Numbers::new(),
             headers: Numbers::new(),

@@ -1,4 +1,4 @@
-use Rattle.driver.proofs.jobs.Evaluator.evaluate_trees.Given as goal
+use Rattle.mini_java.proofs.jobs.Worker.evaluate_trees.Given as goal
 
 abbrev pub invariant-loop : goal.invariant-loop
 invariant-loop g l = Unit {0}
