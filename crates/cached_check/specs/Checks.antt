@@ -10,7 +10,7 @@ use Rattle.sessions.specs.declared.terms.Terms.{Terms}
 use Rattle.sessions.specs.Sessions.{Entry, SessionValue, entry_at, session_in}
 use Rattle.graph_rules.specs.Steps.{Event}
 use Rattle.next_sessions.specs.Nexts.{StandsApart, IsNextSession}
-use Rattle.driver.specs.Sessions.{AreEventsOf}
+use Rattle.mini_java.specs.Sessions.{AreEventsOf}
 use Rattle.session_cache.specs.Starts.{IsLastChain, IsStart, IsStartBehind}
 use Rattle.session_cache.specs.declared.start.LastChain.{LastChain}
 use Rattle.session_cache.specs.declared.start.Start.{Start}

@@ -2,13 +2,12 @@
 ghost use Rattle.std.specs.Prelude.{◌≡◌, ◌<◌, IfOk, IfErr, IfSome};
 ghost use Rattle.session_cache.specs.Names.{most};
 ghost use Rattle.sessions.specs.Sessions.{session_in};
-ghost use Rattle.driver.specs.Sessions.{IsCrew};
+ghost use Rattle.mini_java.specs.Sessions.{IsCrew};
 ghost use Rattle.query_rules.specs.Queries.{queries};
 ghost use Rattle.next_sessions.specs.Nexts.{StandsApart};
 ghost use Rattle.cached_check.specs.Checks.{IsMadeOver, IsNextByRules};
 
-use driver::changed_files;
-use mini_java::{DriveFault, Open, run_session_alone, run_session_as};
+use mini_java::{DriveFault, Open, changed_files, run_session_alone, run_session_as};
 use mj_rules::answer_laws;
 use named_files::Project;
 use sessions::{Session, Terms};
