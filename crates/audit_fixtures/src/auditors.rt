@@ -99,7 +99,7 @@ pub fn auditor_stays(alloc: Global, chain: &[Change]) -> Result<bool, Unfit>
     Ok(is_taken_or_stays(alloc, chain, list.as_slice(), &mut runner))
 }
 
-/// What an auditor says that takes the files one by one, from feeds that give so many bytes in a call at most.
+/// What is said by an auditor that takes the files one by one, from feeds that give so many bytes in a call at most.
 fn taken_in_turn(alloc: Global, files: &[&[u8]], runner: &mut MiniJava, piece: usize) -> Said
     ensures { IfOk result (IsAcceptedAs (map (λ f. f.now) files.now) runner.old.log.items
         runner.new.log.items) }
@@ -138,8 +138,8 @@ fn is_logged(chain: &[Change], runner: &MiniJava) -> bool {
     }
 }
 
-/// What an auditor says that takes the files of the chain's sessions from feeds that give so many bytes in a call at most.
-/// The log of its runner has just what is run.
+/// What is said by an auditor that takes the files of the chain's sessions, from feeds that give so many bytes in a call at
+/// most. The log of its runner has just what is run.
 pub fn said_in_pieces(alloc: Global, chain: &[Change], piece: usize) -> Result<Said, Unfit>
     ensures { IfOk result (IsSaidOf chain.now) }
 {

@@ -39,7 +39,7 @@ pub(crate) fn says(said: &Said, wanted: (usize, u128)) -> bool
     *said == Ok(wanted)
 }
 
-/// Whether the log of a runner is what an audit that says this should have run: a beginning of it if it refuses.
+/// Whether the log of a runner is what an audit with this result should have run, or a beginning of it if it refuses.
 fn is_logged(chain: &[Change], runner: &MiniJava, said: &Said) -> bool {
     begins(chain, runner.log()) && (said.is_err() || runs_of(chain) == Some(runner.log().len()))
 }

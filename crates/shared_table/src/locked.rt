@@ -212,8 +212,8 @@ impl<J: Naming, R: Runner> Locked<J, R> {
         self.counted.fail(tally, w)
     }
 
-    /// Gives a worker a key that is done with this result, and says whether it did: it does, since only the table adds to
-    /// the list, so that it knows all of it.
+    /// Gives a worker a key that is done with this result, and says whether it did. It always does: only the table adds to
+    /// the list, and so knows all of it.
     fn tell(&mut self, memo: &mut Memo<J>, key: &Key, sealed: &Arc<Sealed>) -> bool
         requires { IsDoneWith (arc_value sealed.now) ((state_of self.old).at key.now) }
         ensures same { self.new ≡ self.old }

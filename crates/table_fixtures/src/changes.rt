@@ -15,7 +15,7 @@ use std::alloc::{AllocError, AllocFailed, Global};
 use std::sync::Arc;
 
 /// A session of these terms with the keys and edges of a list of records: which of them are executed (the others
-/// are inputs or green, and which have another result than the list says.
+/// are inputs or green), and which have another result than the list says.
 #[derive(Clone, Copy)]
 pub struct Change {
     pub terms: Terms,
