@@ -50,7 +50,7 @@ pub record IsNextByRules (terms : Terms) (past : Option SessionValue) (p : Proje
 
 -- A legal history of a session of these terms over the previous session and the project closes with the
 -- session. Each outcome in it is one that MiniJava's queries give to their reads, and it records the
--- answer. Where it stands apart from the previous session, it is the next one, with the answer of the
+-- answer. If it stands apart from the previous session, it is the next one, with the answer of the
 -- static rules.
 pub record IsMadeOver (terms : Terms) (past : Option SessionValue) (p : Project)
     (s : SessionValue) : Type 0 where

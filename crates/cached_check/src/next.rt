@@ -16,7 +16,7 @@ use std::sync::{Arc, Wait};
 use std::thread::Threads;
 
 /// The session of a project, of these terms, that follows the previous one, made by so many workers at most, each in a thread
-/// of its own, and by no more of them than files have changed. Where the previous session is one of some project, or there
+/// of its own, and by no more of them than files have changed. If the previous session is one of some project, or there
 /// is none, and no two different results, one of it and one of this session, share a fingerprint, it is the session that any
 /// workers make, and its answer is what the static rules of its profile give the project's files. There is none only if
 /// memory runs out.

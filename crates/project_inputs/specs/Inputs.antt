@@ -21,7 +21,7 @@ bytes_in _ = []
 abbrev pub Sealed : Type 0
 Sealed = List ℕ × Arc Value Global
 
--- the file that these tell
+-- the file that these give
 abbrev pub file_of : Sealed → SourceFile
 file_of s = record { name = s.0; bytes = bytes_in (arc_value s.1) }
 

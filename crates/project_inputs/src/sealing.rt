@@ -97,7 +97,7 @@ pub(crate) fn sealed_sources(
     Ok(sources)
 }
 
-/// The result of a file's source: that of the previous session where the bytes are the same, else one whose bytes are
+/// The result of a file's source: that of the previous session if the bytes are the same, else one whose bytes are
 /// copied.
 fn source_result(
     alloc: Global,
@@ -118,7 +118,7 @@ fn source_result(
     seal_to_share(alloc, Value::Source(Some(text)))
 }
 
-/// One more owner of the result that a session has for a file's source, where the bytes are the same.
+/// One more owner of the result that a session has for a file's source, if the bytes are the same.
 fn past_source(
     alloc: Global,
     past: &Session,
