@@ -133,9 +133,9 @@ fn table_at<'a>(
     requires right { AreTables (declared_in declarations.now) tables.now }
     ensures { IfOk result (IsTableAt (declared_in declarations.now) at) }
 {
+    let class = declarations.class_at(at);
     if let Some(above) = declarations.superclass_of(at) {
         if let Some(inherited) = &tables[above] {
-            let class = declarations.class_at(at);
             return table_over(alloc, &class, inherited);
         }
     }
