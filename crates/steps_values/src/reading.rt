@@ -9,8 +9,8 @@ use crate::plan::PlanFormat;
 use crate::refusal::Refusal;
 use crate::value::Value;
 use byte_readers::{Breach, ReadError, read_option};
-use steps_keys::Kind;
 use std::alloc::Global;
+use steps_keys::Kind;
 
 /// The value of a kind that the bytes spell, all of them.
 pub fn decode(alloc: Global, kind: Kind, bytes: &[u8]) -> Result<Value, Refusal>

@@ -3,8 +3,8 @@ ghost use Rattle.std.specs.Prelude.{◌≡◌, option_copied};
 
 use crate::files::{FileNames, Text};
 use crate::plan::Plan;
-use steps_keys::Kind;
 use ordered_names::Name;
+use steps_keys::Kind;
 
 /// The result of a query, one arm for each kind. `None` is the result for a key that names nothing.
 pub enum Value {
@@ -68,9 +68,8 @@ impl Value {
         ensures { option_copied result ≡ text_in self.now }
     {
         match self {
-            Value::Source(text) | Value::Compile(text) | Value::Link(text) | Value::Answer(text) => {
-                text.as_ref()
-            }
+            Value::Source(text) | Value::Compile(text) | Value::Link(text) | Value::Answer(text) =>
+                { text.as_ref() }
             _ => None,
         }
     }
