@@ -14,12 +14,12 @@ from projects import edit_body, edit_file  # noqa: E402
 from shapes import SHAPES, ordinary  # noqa: E402
 
 SESSIONS, MANY, FEW = 10, 100, 3
-# What the lines say of the form, and the words for it.
+# What the lines say of the form, and the arguments for it.
 FORMS = {"": [], " in form 2": ["--form", "2"]}
 
 
 def told(about, program, folder, names, files, runs):
-    """Tells how long an audit of these files takes. Answers its seconds and its peak bytes."""
+    """Reports how long an audit of these files takes. Answers its seconds and its peak bytes."""
     sizes = [Path(file).stat().st_size for file in files]
     audits = [measured([program, "audit", *files], folder) for _ in range(runs)]
     seconds, peak = min(seconds for seconds, _ in audits), max(peak for _, peak in audits)

@@ -11,12 +11,12 @@ from measuring import asked, check, least_time  # noqa: E402
 from projects import edit_body, edit_file  # noqa: E402
 from shapes import SHAPES  # noqa: E402
 
-# What is asked of a chain, by the words that ask for it.
+# What is asked of a chain, by the arguments that ask for it.
 ASKED = {"why": ["why"], "why --of Answer": ["why", "--of", "Answer"], "show --dot": ["show", "--dot"]}
 
 
 def told(about, program, folder, unchanged, runs):
-    """Tells how long each question takes of the last session of the chain, beside an unchanged check."""
+    """Reports how long each question takes about the last session of the chain, beside an unchanged check."""
     for title, words in ASKED.items():
         seconds = least_time([program, *words, *session_files(folder)], folder, runs)
         print(f"  {title} of {about}: {seconds:.3f} s, {seconds / unchanged:.2f} times an unchanged check", flush=True)

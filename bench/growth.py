@@ -1,5 +1,5 @@
 #!/usr/bin/env python3
-"""Tells how the cost of `mjrg` grows with a project's size, in one run: the seconds and the memory of `scratch`, of a first
+"""Reports how the cost of `mjrg` grows with a project's size, in one run: the seconds and the memory of `scratch`, of a first
 check, of an unchanged one behind it, and of an audit of the two session files.
 
   bench/growth.py dist/mjrg --runs 3 --json FILE --plot docs/growth.svg
@@ -103,7 +103,7 @@ def points_of(family, given):
     return (point_of(given.program, family, number, given.runs) for number in family.numbers)
 
 
-# ---- telling
+# ---- reporting
 
 def row(*cells):
     print(f"| {' | '.join(cells)} |", flush=True)
@@ -120,7 +120,7 @@ def exponent(line):
 
 
 def told(family, points):
-    """Tells what each project costs as soon as that is known, and the exponents. Answers all points."""
+    """Reports what each project costs as soon as that is known, and the exponents. Answers all points."""
     known = []
     for point in points:
         if not known:

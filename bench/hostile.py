@@ -88,7 +88,7 @@ KINDS = {
 
 
 def timed(words, limit):
-    """Seconds and status of one run; None where it takes longer than the limit. A wait with a timeout of its own would only
+    """Seconds and status of one run; None if it takes longer than the limit. A wait with a timeout of its own would only
     look every 50 ms."""
     started = time.perf_counter()
     ran = subprocess.Popen(words, stdout=subprocess.DEVNULL, stderr=subprocess.DEVNULL)
@@ -112,7 +112,7 @@ def runs_of(program, path, jobs):
 
 
 def least_times(program, path, runs, limit, jobs):
-    """The least seconds of each of these runs, or None where one takes longer than the limit."""
+    """The least seconds of each of these runs, or None if one takes longer than the limit."""
     least = {}
     for _ in range(runs):
         for run, words in runs_of(program, path, jobs).items():

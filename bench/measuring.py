@@ -64,7 +64,7 @@ def repeated(program, steps, data, count, runs):
 
 
 def elsewhere(run, *given):
-    """Runs a function that needs much memory in another process: what a program has at most is told together with what the
+    """Runs a function that needs much memory in another process: what a program has at most is reported together with what the
     process that started it has had."""
     ran = multiprocessing.Process(target=run, args=given)
     ran.start()

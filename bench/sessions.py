@@ -32,7 +32,7 @@ def session(size):
 
 
 def of_bench(program, size, count, runs):
-    """Tells how long reading and writing such a session takes. Answers the seconds of each."""
+    """Reports how long reading and writing such a session takes. Answers the seconds of each."""
     data = session(size)
     took = repeated(program, ("read-session", "write-session"), data, count, runs)
     times = {"read": took["read-session"], "write": took["write-session"] - took["read-session"], "sha256sum": took["sha256sum"]}
@@ -43,7 +43,7 @@ def of_bench(program, size, count, runs):
 
 
 def by_sizes(program, count, runs):
-    """Tells how long reading and writing a session of 5 MB takes, and one of 50 MB."""
+    """Reports how long reading and writing a session of 5 MB takes, and one of 50 MB."""
     small, large = (of_bench(program, size, count, runs) for size in (5_000_000, 50_000_000))
     for step in ("read", "write"):
         print(f"{step}: ten times the bytes take {large[step] / small[step]:.1f} times as long")
@@ -60,7 +60,7 @@ def turns(program, folder, names, number):
 
 
 def checks(program, runs):
-    """Tells the least seconds and the greatest peak of some runs of each kind of check."""
+    """Reports the least seconds and the greatest peak of some runs of each kind of check."""
     took = {}
     for number in range(runs):
         with tempfile.TemporaryDirectory() as folder:

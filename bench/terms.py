@@ -13,7 +13,7 @@ BEHIND = (1, 2, 10, 50)
 
 
 def least_checks(program, folder, names, number, runs, terms):
-    """The least seconds of checks that make this session, with each of these words in turn; it is taken away again."""
+    """The least seconds of checks that make this session, with each of these arguments in turn; it is taken away again."""
     least = []
     for _ in range(runs):
         took = []
@@ -25,7 +25,7 @@ def least_checks(program, folder, names, number, runs, terms):
 
 
 def across_profiles(program, folder, names, runs):
-    """Tells how long a check in profile 2 takes over a session of profile 1. Answers the seconds of one in profile 1."""
+    """Reports how long a check in profile 2 takes over a session of profile 1. Answers the seconds of one in profile 1."""
     check(program, folder, names)
     alike, across = least_checks(program, folder, names, 1, runs, [["--profile", "1"], ["--profile", "2"]])
     print(f"  unchanged: {alike:.3f} s")
@@ -34,7 +34,7 @@ def across_profiles(program, folder, names, runs):
 
 
 def sizes_by_form(program, folder, names):
-    """Tells the bytes of an unchanged session in both forms. Leaves a chain of a first and an unchanged one in form 2."""
+    """Reports the bytes of an unchanged session in both forms. Leaves a chain of a first and an unchanged one in form 2."""
     sizes = []
     for form in ("1", "2"):
         shutil.rmtree(Path(folder, "cache"), ignore_errors=True)
@@ -46,7 +46,7 @@ def sizes_by_form(program, folder, names):
 
 
 def behind_form_2(program, folder, names, runs, alike):
-    """Tells how long an unchanged check takes behind so many sessions of form 2, over the chain that stands there."""
+    """Reports how long an unchanged check takes behind so many sessions of form 2, over the chain that stands there."""
     unchanged = session_path(folder, 1).read_bytes()
     session_path(folder, 1).unlink()
     for count in BEHIND:

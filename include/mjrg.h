@@ -11,7 +11,7 @@
  *     PTRDIFF_MAX at most;
  *   - that the bytes of one call don't overlap, and that nothing else writes them during the call, or reads `out` or `err`;
  *   - that 4 MiB of stack are free (deep phrases took 2.2 MiB at most);
- *   - that malloc, realloc and free come from one allocator, whose blocks are aligned to 16 bytes, or, where they are smaller,
+ *   - that malloc, realloc and free come from one allocator, whose blocks are aligned to 16 bytes, or, if they are smaller,
  *     to the greatest power of two that divides their size;
  *   - that no call is made from a signal handler, or in the forked child of a process with threads. */
 #ifndef MJRG_H
@@ -31,7 +31,7 @@ enum {
     MJRG_REFUSED = 2,       /* there is no answer: `err` has one line that says why */
     MJRG_CHAIN_REFUSED = 3, /* the audit refuses the chain: `err` has one line that says why */
     MJRG_OUT_OF_MEMORY = 4, /* memory ran out: nothing is written, and all lengths are 0 */
-    MJRG_TOO_SMALL = 5      /* a buffer is too small for what it gets: nothing is written, and all lengths are told */
+    MJRG_TOO_SMALL = 5      /* a buffer is too small for what it gets: nothing is written, and all lengths are given */
 };
 
 /* The status, and how many bytes each text has. The texts have no zero byte at their end. */

@@ -20,7 +20,7 @@ def arguments(about):
 
 
 def asked(parser):
-    """What this parser reads of the command line, where the program is there."""
+    """What this parser reads of the command line, if the program is there."""
     options = parser.parse_args()
     options.program = options.program.resolve()
     if not (options.program.is_file() and os.access(options.program, os.X_OK)):
@@ -29,7 +29,7 @@ def asked(parser):
 
 
 def run(words, folder, seconds=SECONDS, **how):
-    """Runs a program in this folder, without input. Raises TimeoutExpired where it doesn't end."""
+    """Runs a program in this folder, without input. Raises TimeoutExpired if it doesn't end."""
     return subprocess.run(words, cwd=folder, stdin=subprocess.DEVNULL, capture_output=True, timeout=seconds, check=False,
                           **how)
 
@@ -50,7 +50,7 @@ def is_met(expected, actual):
 
 
 def report(results, passing="passed"):
-    """Prints the lines on what is wrong with each thing that was tried, none where it passed, and last how many passed and
+    """Prints the lines on what is wrong with each thing that was tried, none if it passed, and last how many passed and
     failed. Returns the exit status."""
     passed = failed = 0
     for wrong in results:

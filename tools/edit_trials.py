@@ -47,7 +47,7 @@ def run(folder, *words):
 # What a check says of a function whose own goals are all proved, and that calls another with one that isn't.
 WAITS = r"(?:in `[^`]+`, of this cycle of calls: )?it calls `[^`]+`(?: and `[^`]+`)*, which (?:is|are) not proved"
 PROVED = re.compile(rf"proved(?:, may \w+)*|no proof: {WAITS}(?:; {WAITS})*")
-# What antt says where it couldn't read a text of src/ or specs/, in which a false statement reads well.
+# What antt says if it couldn't read a text of src/ or specs/, in which a false statement reads well.
 UNREAD = r"is not in scope|has no field|is no name|operand is missing|expected the end|cannot continue"
 
 

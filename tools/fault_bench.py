@@ -79,9 +79,9 @@ def longer():
 
 
 class Command:
-    """Words for the program, with the versions of the project that were checked before and the one that is there.
+    """Arguments for the program, with the versions of the project that were checked before and the one that is there.
 
-    Those checks had the words `terms`, a text for each, or none. With `cut` the files of sessions, by their numbers,
+    Those checks had the arguments `terms`, a text for each, or none. With `cut` the files of sessions, by their numbers,
     were cut to so many bytes; with `ways` the command is run in these ways alone."""
 
     def __init__(self, name, project, words, checked=(), version=0, terms=(), cut=None, ways=None):
@@ -196,7 +196,7 @@ class Faults:
         self.shared = mmap.mmap(self.file, struct.calcsize(COUNTS))
 
     def begin(self, numbers):
-        """Begins to count anew. Returns the environment for a run with these faults, told by the environment's names."""
+        """Begins to count anew. Returns the environment for a run with these faults, by the environment's names."""
         self.shared[:] = bytes(len(self.shared))
         numbers = {name: str(number) for name, number in numbers.items()}
         return {"LD_PRELOAD": self.shim, "FAULTS_FD": str(self.file), **numbers}
@@ -237,7 +237,7 @@ class Bench:
     def run(self, words, output=subprocess.PIPE, user=None, environment=()):
         """Runs the program, as another user if that is wanted. What it makes stays until `clear`.
 
-        Raises TimeoutExpired where it doesn't end."""
+        Raises TimeoutExpired if it doesn't end."""
         done = subprocess.run(words, cwd=self.folder, stdin=subprocess.DEVNULL, stdout=output, stderr=subprocess.PIPE,
                               check=False, timeout=SECONDS, pass_fds=[self.faults.file],
                               env={**os.environ, **dict(environment)}, **(user or {}))
@@ -254,7 +254,7 @@ class Bench:
             path.rmdir() if path.is_dir() else path.unlink()
 
     def faulty(self, **numbers):
-        """Runs the command with faults, told by the environment's names. Returns what came, and the counts."""
+        """Runs the command with faults, given by the environment's names. Returns what came, and the counts."""
         done = self.run(self.words, environment=self.faults.begin(numbers))
         return done, self.faults.counts()
 

@@ -4,9 +4,9 @@
    What fails stands in the environment. With REFUSE_FROM and REFUSE_TO the allocations of these numbers, counted from 1,
    and with REFUSE_OVER each of more bytes than that; a thread counts as an allocation. With FAIL_FROM and FAIL_TO the
    calls on devices of these numbers, with the error FAIL_WITH, or for 0 the program is killed there; with FAIL_NOTHING
-   only writes are counted, and those of these numbers take nothing and tell no error; with FAIL_SHORT each read and write
+   only writes are counted, and those of these numbers take nothing and report no error; with FAIL_SHORT each read and write
    is of so many bytes at most.
-   FAULTS_FD is the number of an open file for what is counted, also where the program ends by a signal. What comes
+   FAULTS_FD is the number of an open file for what is counted, also if the program ends by a signal. What comes
    before the program is loaded whole isn't counted and doesn't fail. */
 #define _GNU_SOURCE
 #include <dlfcn.h>

@@ -116,7 +116,7 @@ class Forgery:
         record.forged_print = self.chance.choice([other, self.another(record).print()])
 
     def print_of_a_green_record_in_form_2(self):
-        """One bit of it, where the file has no result that could tell."""
+        """One bit of it, if the file has no result that would show it."""
         records = [record for session in self.sessions if session.form == 2 for record in session.records]
         record = self.chance.choice([record for record in records if record.mark == GREEN])
         right = record.print()
@@ -145,7 +145,7 @@ class Forgery:
             record.edges = [moved.get(edge, edge) for edge in record.edges]
 
     def record_taken(self):
-        """A record as another session has it, with edges to the same keys where they are here."""
+        """A record as another session has it, with edges to the same keys if they are here."""
         there = self.chance.choice(self.sessions)
         taken = copy.deepcopy(self.chance.choice(there.records))
         keys = [record.key() for record in self.records]
@@ -173,7 +173,7 @@ class Forgery:
                 record.result = there.get(record.key(), record.result)
 
     def renamed(self):
-        """One letter for another in all names and results of all sessions, where they aren't words of the language."""
+        """One letter for another in all names and results of all sessions, if they aren't words of the language."""
         letter, other = self.chance.sample([b"C", b"m", b"f", b"p", b"v", b"K", b"g"], 2)
         for record in (record for session in self.sessions for record in session.records):
             for digit in b"0123456789":
@@ -184,7 +184,7 @@ class Forgery:
     # Sessions.
 
     def version(self):
-        """Another version, where the records are spelled in the form that they had."""
+        """Another version, but the records are spelled in the form that they had."""
         self.session.version = self.chance.choice([0, 1, 2, 3, 256, 257, 258, 259, 65535])
 
     def profile(self):

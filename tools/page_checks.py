@@ -1,10 +1,12 @@
 """What can be checked of the pages: their links, the commands, files, options and names that they cite, the lines that they
-count, and their lengths.
+count, their lengths, and the table of EVIDENCE.md.
 
 `checks` gives each check of each page with what is wrong there, as lines 'PAGE:LINE: WHAT'.
 """
 import re
 from pathlib import Path
+
+import plants
 
 TOP = Path(__file__).resolve().parent.parent
 # The most words of a page, as wc -w counts them.
@@ -228,3 +230,4 @@ def checks(help_of):
         for wrong in (wrong_links(page), unlinked(page), wrong_paths(page), wrong_lengths(page), wrong_names(page, names),
                       wrong_contracts(page), wrong_crates(page), wrong_counts(page), wrong_commands(page, help_of)):
             yield [f"{page.relative_to(TOP)}:{number}: {what}" for number, what in wrong]
+    yield plants.wrong()

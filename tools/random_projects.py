@@ -132,7 +132,7 @@ class Phrases:
 
 
 def random_terms(chance):
-    """The words of a command for a random profile, and those for a random form."""
+    """The arguments of a command for a random profile, and those for a random form."""
     return ["--profile", str(chance.choice(PROFILES))], ["--form", str(chance.choice(FORMS))]
 
 
@@ -189,7 +189,7 @@ class Project:
         return found[1:]
 
     def related(self, kind):
-        """A type to return where this one is returned above: a class below it, itself or a class above it, or any type."""
+        """A type to return if this one is returned above: a class below it, itself or a class above it, or any type."""
         if self.chance.random() < 0.1:
             return self.chance.choice(self.types())
         below = [of.name for of in self.classes() if kind in [above.name for above in self.above(of.name)]]
@@ -206,7 +206,7 @@ class Project:
         return above.methods[-1]
 
     def add_override(self, of):
-        """Adds a method that overrides one of a class above, where there is a class, most often of the same parameters."""
+        """Adds a method that overrides one of a class above, if there is a class, most often of the same parameters."""
         for above in self.one(self.above(of.name)):
             found = self.overridden(of, above)
             formals = list(found.formals) if self.chance.random() < 0.9 else self.formals()
@@ -225,7 +225,7 @@ class Project:
         self.files[0].main = Phrases(self, None, []).expression("int")
 
     def one(self, of):
-        """A list of one of these, or of none where there is none."""
+        """A list of one of these, or of none if there is none."""
         return self.chance.sample(of, min(1, len(of)))
 
     def methods(self):

@@ -31,7 +31,7 @@ def token(number):
 
 
 def name(text):
-    """A name with its length in front, which is 0 where there is none."""
+    """A name with its length in front, which is 0 if there is none."""
     return bytes([len(text)]) + text
 
 

@@ -122,7 +122,7 @@ pub lawful_by_name : {A : Type 0} {p : Decoder A} {sp : A → List ℕ} {P : A �
     (OrderedFits P (ByName name_of))
 lawful_by_name law name_of = lawful_ascending (by_name_tests name_of) law
 
--- where the order is total, what comes before another is less than it
+-- if the order is total, what comes before another is less than it
 less_from : {A : Type 0} (cmp : A → A → Ordering) (B : A → A → Type 0) → IsStrictTotalOrder B
     → ((a b : A) → cmp a b ≡ Less → B a b) → ((a b : A) → cmp a b ≡ ordering_reverse (cmp b a))
     → ((a b : A) → cmp a b ≡ Equal → a ≡ b)

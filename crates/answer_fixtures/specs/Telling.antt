@@ -85,7 +85,7 @@ flipped bytes at flip = slice_set bytes at (bit_xor (slice_index bytes at) flip)
 abbrev pub IsIdle : Kind → List ℕ → ℕ → ℕ → Type 0
 IsIdle kind bytes at flip = AreSpellings kind (flipped bytes at flip) bytes
 
--- another value, or none, where the byte's lowest bit is turned, its highest, or all of them
+-- another value, or none, if the byte's lowest bit is turned, its highest, or all of them
 pub record CountsTurns (kind : Kind) (bytes : List ℕ) (at : ℕ) : Type 0 where
   pub lowest : ¬ IsIdle kind bytes at 0x01
   pub highest : ¬ IsIdle kind bytes at 0x80

@@ -11,11 +11,11 @@ use item_ids::{Key, Kind, keys_in_order};
 use ordered_names::Name;
 use std::alloc::Global;
 
-/// The kind of a key, its class or file, and its method, each empty where there is none.
+/// The kind of a key, its class or file, and its method, each empty if there is none.
 #[derive(Clone, Copy, Debug)]
 pub struct KeyParts<'a>(pub Kind, pub &'a str, pub &'a str);
 
-/// The name of this text, or none where it is empty.
+/// The name of this text, or none if it is empty.
 fn perhaps_name(alloc: Global, text: &str) -> Result<Option<Name>, Unfit>
     ensures { IfOk result (λ name. name ≡ name_told text.now) }
 {
@@ -28,7 +28,7 @@ fn perhaps_name(alloc: Global, text: &str) -> Result<Option<Name>, Unfit>
     }
 }
 
-/// The key, or `None` where the names don't fit its kind.
+/// The key, or `None` if the names don't fit its kind.
 fn perhaps_key(alloc: Global, asked: KeyParts) -> Result<Option<Key>, Unfit>
     ensures made { IfOk result (λ key. IsSome key ↔ FitTold asked.entry) }
     ensures told { IfOk result (λ key. IfSome key (IsKeyOf asked.entry)) }
@@ -59,7 +59,7 @@ pub fn is_made(alloc: Global, asked: KeyParts) -> Result<bool, Unfit>
     Ok(key.is_some())
 }
 
-/// Whether the name has this text, or is missing where the text is empty.
+/// Whether the name has this text, or is missing if the text is empty.
 fn is_name(name: Option<&Name>, text: &str) -> bool
     ensures { IsTrue result ↔ (option_copied name.entry ≡ name_told text.now) }
 {
@@ -120,7 +120,7 @@ pub fn is_copy(alloc: Global, asked: KeyParts, other: KeyParts) -> Result<bool, 
 fn equals_named(alloc: Global, key: &Key, asked: KeyParts) -> Result<bool, Unfit>
     ensures { IfOk result (λ b. IsTrue b ↔ IsKeyOf asked.entry key.now) }
 {
-    // Keys are equal where their kinds, classes and members are.
+    // Keys are equal if their kinds, classes and members are.
     keys_in_order();
     let other = key_of(alloc, asked)?;
     equals_copy(alloc, key, &other)

@@ -23,7 +23,7 @@ pub fn sealed_of(alloc: Global, kind: Kind, digits: &str) -> Result<Arc<Sealed>,
     sealed_beside(alloc, None, kind, digits)
 }
 
-/// The result of the kind that these digits spell, sealed where this one is known.
+/// The result of the kind that these digits spell, sealed if this one is known.
 fn sealed_beside(
     alloc: Global,
     known: Option<&Arc<Sealed>>,
@@ -59,7 +59,7 @@ pub fn is_sealed(alloc: Global, kind: Kind, digits: &str, print: &str) -> Result
     is_sealed_beside(alloc, None, kind, digits, print)
 }
 
-/// Whether it is so where this result is known.
+/// Whether it is so if this result is known.
 pub fn is_sealed_beside(
     alloc: Global,
     known: Option<&Arc<Sealed>>,
@@ -101,7 +101,7 @@ pub fn is_opened(alloc: Global, kind: Kind, bytes: &[u8], print: Print) -> Resul
     }
 }
 
-/// Why the bytes and the fingerprint aren't opened, or `None` where they are.
+/// Why the bytes and the fingerprint aren't opened, or `None` if they are.
 pub fn open_fault(
     alloc: Global,
     kind: Kind,

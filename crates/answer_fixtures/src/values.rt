@@ -107,7 +107,7 @@ pub fn is_spelling(alloc: Global, kind: Kind, digits: &str) -> Result<bool, Unfi
     spells(alloc, kind, bytes.as_slice())
 }
 
-/// Why the bytes spell no value of the kind, or `None` where they spell one.
+/// Why the bytes spell no value of the kind, or `None` if they spell one.
 pub fn refusal_of(alloc: Global, kind: Kind, bytes: &[u8]) -> Option<Refusal>
     ensures { MatchOption result (IsSpelling kind bytes.now)
         (λ refusal. IsDecodedUnlessMemory (Err refusal) (decoding kind bytes.now)) }
@@ -146,7 +146,7 @@ fn flip_bits(alloc: Global, bytes: &[u8], at: usize, flip: u8) -> Result<Vec<u8>
     Ok(other)
 }
 
-/// Whether the value stays as it was where these bits of a byte are turned.
+/// Whether the value stays as it was if these bits of a byte are turned.
 fn is_idle(alloc: Global, kind: Kind, bytes: &[u8], at: usize, flip: u8) -> Result<bool, Unfit>
     requires { at < length bytes.now }
     ensures { IfOk result (λ b. IsTrue b
@@ -156,7 +156,7 @@ fn is_idle(alloc: Global, kind: Kind, bytes: &[u8], at: usize, flip: u8) -> Resu
     is_spelled_as(alloc, kind, other.as_slice(), bytes)
 }
 
-/// Whether another value, or none, is spelled where a byte's lowest bit is turned, its highest, or all of them.
+/// Whether another value, or none, is spelled if a byte's lowest bit is turned, its highest, or all of them.
 fn counts(alloc: Global, kind: Kind, bytes: &[u8], at: usize) -> Result<bool, Unfit>
     requires { at < length bytes.now }
     ensures { IfOk result (λ b. IsTrue b ↔ CountsTurns kind bytes.now at) }

@@ -68,7 +68,7 @@ differ_long (t ∷ ts) (u ∷ us) no_way = both (same_type t u) (differ_long ts 
     both true h = h
     both false h = refl
 
--- the second class, where there are methods
+-- the second class, if there are methods
 pub second_class : (methods chain : List Name) → (methods ≡ [] → ⊥) → overridden_class methods chain ≡ slice_get chain 1
 second_class [] chain some = absurd (some refl)
 second_class (m ∷ ms) [] some = refl

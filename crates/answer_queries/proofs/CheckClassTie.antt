@@ -181,7 +181,7 @@ module _ (profile : Profile) (p : Project) where
     abbrev overridden : Name → Option Sig
     overridden x = nearest_sig (rest_of cs k.name) x
 
-    -- these flags tell which first methods override one that they may not
+    -- these flags say which first methods override one that they may not
     abbrev Tells : (Name → Bool) → Type 0
     Tells flag = (n : ℕ) (m : Method) → own_method m.name k ≡ Some m → override_faults profile cs n m (overridden m.name) ≡ when_fault (flag m.name) (places.Method n) E205
 

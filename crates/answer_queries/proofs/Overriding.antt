@@ -64,7 +64,7 @@ override_told Two cs n m (Some sig) = ap (λ b. when_fault (not (b && accepts cs
 
 -- ---- what is read of return types
 
--- the chain of the return type of the first, where both have the same parameter types, and their
+-- the chain of the return type of the first, if both have the same parameter types, and their
 -- return types are classes and differ
 abbrev pub sig_chain : Option Sig → Option Sig → List Key
 sig_chain None other = []

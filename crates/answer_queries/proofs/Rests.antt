@@ -13,7 +13,7 @@ module _ (cs : List ClassDecl) where
   relink whole other (x ∷ []) end h l = h x l
   relink whole other (x ∷ y ∷ rest) end h l = (l.0, relink whole other (y ∷ rest) end h l.1)
 
-  -- where the last class extends c, they go on with c
+  -- if the last class extends c, they go on with c
   link_back : (whole other : List Name) (x : Name) (rest : List Name) (c s : Name) → Extends cs c (Some s) → Contains other s → Links cs whole (x ∷ rest) (Repeated c) → Links cs other ((x ∷ rest) ++ c ∷ []) (Repeated s)
   link_back whole other x [] c s e h l = (l.0, (e, h))
   link_back whole other x (y ∷ rest) c s e h l = (l.0, link_back whole other y rest c s e h l.1)

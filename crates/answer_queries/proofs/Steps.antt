@@ -56,7 +56,7 @@ pub one_added : (old new : List Diagnostic) (name : Name) (n : ℕ) (o : Option 
 one_added old new name n o f e there same =
     e ∙ (ap (λ m. old ++ fault (places.ClassOf m (bound n)) E104 ∷ []) same ∙ sym (ap (λ p. old ++ repeated_class p n) there))
 
--- what is added where a flag is set
+-- what is added if a flag is set
 pub by_flag : (flag : Bool) (old new ds : List Diagnostic) → ((flag ≡ true) × (new ≡ old ++ ds)) ⊎ ((flag ≡ false) × (new ≡ old)) → new ≡ old ++ (if flag then ds else [])
 by_flag flag old new ds (inl h) = h.1 ∙ sym (ap (λ b. old ++ (if b then ds else [])) h.0)
 by_flag flag old new ds (inr h) = h.1 ∙ sym (ap (λ b. old ++ (if b then ds else [])) h.0 ∙ append-nil old)

@@ -32,7 +32,7 @@ class_step row classes k =
 abbrev pub answer : List Diagnostic → List ClassAnswerValue → AnswerValue
 answer faults classes = record { faults = fault_set faults; classes = classes }
 
--- Index, then Members and Diags of each class, where these are the project's own diagnostics
+-- Index, then Members and Diags of each class, if these are the project's own diagnostics
 abbrev pub classes_steps : List Diagnostic → (AnswerValue → Prog) → Prog
 classes_steps faults k =
     Ask keys.Index (λ v. each class_step (index_in v) [] (λ classes. k (answer faults classes)))

@@ -1,5 +1,5 @@
 -- The diagnostics of a class's declarations: its header and its chain, the header of each class
--- that is the type of a field, then, where it has methods and its chain a second class, the members
+-- that is the type of a field, then, if it has methods and its chain a second class, the members
 -- of both, and in profile 2 the chains of return types.
 use Rattle.std.specs.Prelude.{Bool, true, false, not, List, [], ◌∷◌, ◌++◌, map, Option, Some, None, if◌then◌else◌}
 use Rattle.item_ids.specs.declared.key.Key.TheVariants as keys
@@ -46,7 +46,7 @@ overridden_class (m ∷ ms) [] = None
 overridden_class (m ∷ ms) (c ∷ []) = None
 overridden_class (m ∷ ms) (c ∷ s ∷ farther) = Some s
 
--- whether a type is accepted by another: a class by its chain, where the two differ
+-- whether a type is accepted by another: a class by its chain, if the two differ
 abbrev pub accept_step : Ty → Ty → (Bool → Prog) → Prog
 accept_step (types.Class c) (types.Class d) k =
     if is_same c d then k true else descends_step c d k

@@ -19,7 +19,7 @@ use Rattle.answer_queries.specs.declared.project_faults.DeclaredName.{DeclaredNa
 abbrev pub any_main : List NamedTree → Bool
 any_main files = list_any (λ f. has_main f.1) files
 
--- what is wrong with the files, where an earlier one has a main class or none has
+-- what is wrong with the files, by whether an earlier one has a main class
 abbrev pub files_faults : Bool → List NamedTree → List Diagnostic
 files_faults main_before [] = []
 files_faults main_before (f ∷ fs) =

@@ -7,7 +7,7 @@ use Rattle.result_bytes.specs.Parts.{tree_in}
 use Rattle.recorder.specs.Programs.{Prog, Ask}
 use Rattle.answer_queries.specs.declared.trees.ParsedFile.{ParsedFile}
 
--- a file's name, and its tree where it is a sentence
+-- a file's name, and its tree if it is a sentence
 abbrev pub NamedTree : Type 0
 NamedTree = Name × Option File
 

@@ -26,7 +26,7 @@ fn whole_answer(faults: Vec<Diagnostic>, classes: Vec<ClassAnswer>) -> WholeAnsw
     WholeAnswer::new(Answer::new(fault_set(faults), classes))
 }
 
-/// Asks the index and what each class has, where these are the project's own diagnostics.
+/// Asks the index and what each class has, if these are the project's own diagnostics.
 fn ask_classes<D: Reader>(
     alloc: Global,
     recorder: &mut Recorder<D>,

@@ -79,7 +79,7 @@ fn no_faults(alloc: Global) -> Faults
     Faults::new(Vec::new(alloc))
 }
 
-/// The diagnostics of the declarations of a class, where it is declared.
+/// The diagnostics of the declarations of a class, if it is declared.
 fn check_told<D: Reader>(
     alloc: Global,
     recorder: &mut Recorder<D>,

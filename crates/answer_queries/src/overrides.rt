@@ -43,7 +43,7 @@ fn same_signature(own: &MethodRow, other: &MethodRow) -> bool
     same_type(own.returns(), other.returns()) && same_types(own.formals(), other.formals())
 }
 
-/// Whether a class is accepted by another, by its chain where they differ.
+/// Whether a class is accepted by another, by its chain if they differ.
 fn ask_class<D: Reader>(
     alloc: Global,
     recorder: &mut Recorder<D>,

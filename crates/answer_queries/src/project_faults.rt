@@ -43,7 +43,7 @@ fn has_main(tree: Option<&Tree>) -> bool
     }
 }
 
-/// Adds what is wrong with a file, where an earlier one has a main class or none has.
+/// Adds what is wrong with a file, by whether an earlier one has a main class.
 fn add_file_fault(
     alloc: Global,
     faults: &mut Vec<Diagnostic>,
@@ -64,7 +64,7 @@ fn add_file_fault(
     note_fault(faults, place, code)
 }
 
-/// Adds what is wrong with the files, and tells whether one of them has a main class.
+/// Adds what is wrong with the files, and says whether one of them has a main class.
 fn add_file_faults(
     alloc: Global,
     faults: &mut Vec<Diagnostic>,

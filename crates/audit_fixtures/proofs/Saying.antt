@@ -43,7 +43,7 @@ said_from_none files old new (Ok both) none h = (new, subst (λ (log : List Key)
 said_from_none files old new (Err fault) none h = tt
 
 module _ (chain : List Change) (files : List (List ℕ)) (wanted : ℕ × ℕ) (is : wanted ≡ (length chain, runs_told chain)) where
-  -- where it says what is wanted, it finds as many sessions and runs
+  -- if it says what is wanted, it finds as many sessions and runs
   pub accepts_all : (old new : List Key) (said : Result (ℕ × ℕ) AuditFault) → IfOk said (IsAcceptedAs files old new) → said ≡ Ok wanted → AreAcceptedFiles chain files
   accepts_all old new said h same = record {
     old = old;

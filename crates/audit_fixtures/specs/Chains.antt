@@ -52,7 +52,7 @@ pub record AreAcceptedFiles (chain : List Change) (files : List (List ℕ)) : Ty
   pub new : List Key
   pub accepted : IsAcceptedAs files old new (length chain, runs_told chain)
 
--- an audit has no memory for one of the files, where all before it pass
+-- an audit has no memory for one of the files, if all before it pass
 pub record IsWithoutMemory (files : List (List ℕ)) : Type 0 where
   pub old : List Key
   pub new : List Key

@@ -99,7 +99,7 @@ pub fn auditor_stays(alloc: Global, chain: &[Change]) -> Result<bool, Unfit>
     Ok(is_taken_or_stays(alloc, chain, list.as_slice(), &mut runner))
 }
 
-/// What an auditor says that takes the files one by one, from feeds that give so many bytes in a call at most.
+/// What is said by an auditor that takes the files one by one, from feeds that give so many bytes in a call at most.
 fn taken_in_turn(alloc: Global, files: &[&[u8]], runner: &mut MiniJava, piece: usize) -> Said
     ensures { IfOk result (IsAcceptedAs (map (λ f. f.now) files.now) runner.old.log.items
         runner.new.log.items) }
@@ -111,7 +111,7 @@ fn taken_in_turn(alloc: Global, files: &[&[u8]], runner: &mut MiniJava, piece: u
     told(auditor.end())
 }
 
-/// Whether an auditor takes the files and accepts them, or another one does with the same runner where memory was refused.
+/// Whether an auditor takes the files and accepts them, or another one does with the same runner if memory was refused.
 fn is_taken(
     alloc: Global,
     chain: &[Change],
@@ -138,8 +138,8 @@ fn is_logged(chain: &[Change], runner: &MiniJava) -> bool {
     }
 }
 
-/// What an auditor says that takes the files of the chain's sessions from feeds that give so many bytes in a call at most.
-/// The log of its runner has just what is run.
+/// What is said by an auditor that takes the files of the chain's sessions, from feeds that give so many bytes in a call at
+/// most. The log of its runner has just what is run.
 pub fn said_in_pieces(alloc: Global, chain: &[Change], piece: usize) -> Result<Said, Unfit>
     ensures { IfOk result (IsSaidOf chain.now) }
 {
@@ -154,7 +154,7 @@ pub fn said_in_pieces(alloc: Global, chain: &[Change], piece: usize) -> Result<S
     }
 }
 
-/// Whether the files of the chain's sessions are taken one by one and accepted, and again from the first on where memory was
+/// Whether the files of the chain's sessions are taken one by one and accepted, and again from the first on if memory was
 /// refused, by another auditor with the same runner. The log of the runner then has all that is run behind a beginning of it.
 /// The feeds give so many bytes in a call at most.
 pub fn auditor_again(alloc: Global, chain: &[Change], piece: usize) -> Result<bool, Unfit>

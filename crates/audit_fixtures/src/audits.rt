@@ -24,7 +24,7 @@ pub(crate) fn told(audited: Result<Audited, AuditFault>) -> Said
     }
 }
 
-/// What is said of the whole chain. None where that is past the numbers that there are.
+/// What is said of the whole chain. None if that is past the numbers that there are.
 pub(crate) fn wanted(chain: &[Change]) -> Option<(usize, u128)>
     ensures { IfSome result (λ said. said ≡ (length chain.now, runs_told chain.now)) }
 {
@@ -39,12 +39,12 @@ pub(crate) fn says(said: &Said, wanted: (usize, u128)) -> bool
     *said == Ok(wanted)
 }
 
-/// Whether the log of a runner is what an audit that says this should have run: a beginning of it where it refuses.
+/// Whether the log of a runner is what an audit with this result should have run, or a beginning of it if it refuses.
 fn is_logged(chain: &[Change], runner: &MiniJava, said: &Said) -> bool {
     begins(chain, runner.log()) && (said.is_err() || runs_of(chain) == Some(runner.log().len()))
 }
 
-/// What an audit says of the chain's files. None where it didn't run what it should.
+/// What an audit says of the chain's files. None if it didn't run what it should.
 fn audited(alloc: Global, chain: &[Change], files: &[&[u8]]) -> Option<Said>
     ensures { IfSome result (λ said. IfOk said (λ both. (log : List SpecKey)
         × IsAcceptedAs (map (λ f. f.now) files.now) [] log both)) }
@@ -58,7 +58,7 @@ fn audited(alloc: Global, chain: &[Change], files: &[&[u8]]) -> Option<Said>
     }
 }
 
-/// Whether an audit accepts the chain's files, and one that is made once more where the first was refused memory.
+/// Whether an audit accepts the chain's files, and one that is made once more if the first was refused memory.
 fn is_audited(alloc: Global, chain: &[Change], files: &[&[u8]]) -> bool
     ensures { IsTrue result → AreAcceptedFiles chain.now (map (λ f. f.now) files.now) }
 {
@@ -71,7 +71,7 @@ fn is_audited(alloc: Global, chain: &[Change], files: &[&[u8]]) -> bool
     }
 }
 
-/// Whether the files of the chain's sessions are accepted, by an audit that is made once more where memory was refused. The log
+/// Whether the files of the chain's sessions are accepted, by an audit that is made once more if memory was refused. The log
 /// of its runner then is a beginning of what is run.
 pub fn audit_again(alloc: Global, chain: &[Change]) -> Result<bool, Unfit>
     ensures { IfOk result (λ b. IsTrue b → IsAudited chain.now) }

@@ -13,7 +13,7 @@ use std::alloc::{AllocError, AllocFailed, Global};
 use std::sync::Arc;
 use table_fixtures::{Change, past_behind};
 
-/// How many records are executed in all sessions. None where that is past the numbers that there are.
+/// How many records are executed in all sessions. None if that is past the numbers that there are.
 pub(crate) fn runs_of(chain: &[Change]) -> Option<usize>
     ensures { IfSome result (λ n. n ≡ runs_told chain.now) }
 {

@@ -122,8 +122,8 @@ fn fault_behind(alloc: Global, files: &[MemorySink], bytes: &[u8]) -> Option<Aud
     }
 }
 
-/// Why an auditor refuses the file at this place of the chain where one byte follows it. It stays refused, and runs none of
-/// the file's records. None where it doesn't refuse so.
+/// Why an auditor refuses the file at this place of the chain if one byte follows it. It stays refused, and runs none of
+/// the file's records. None if it doesn't refuse so.
 pub fn fault_of_longer(
     alloc: Global,
     chain: &[Change],

@@ -43,7 +43,7 @@ marked s session q r has =
     ap (λ (e : Entry). is_input_mark e.mark) (sym t.4)
     ∙ (fits.marked ∙ ap (λ k. is_input (kind_of k)) (ap (λ (e : Entry). e.key) t.4 ∙ has_key s session q r has))
 
--- what holds of all entries holds of what is told of a key
+-- what holds of all entries holds of a key's entry
 pub all_told : (P : Entry → Type 0) (s : SessionValue) → AllByRecursion P (entries s) → (q : Key) (r : Entry) → entry_at s q ≡ Some r → P r
 all_told P s all q r has = all_at P (entries s) all r (found_at (λ e. is_eq (key_cmp e.key q)) (entries s) r has)
 

@@ -35,7 +35,7 @@ lacks_something over now r (OverRed i) l st = l.1.lacks (st.same l.1.item (conta
 lacks_something over now r OtherPrint l st =
     l.2 (ap (option_map (λ (x : Entry). print_of x.value)) (kept_held over r.key st.had st.past_has) ∙ ap Some st.print)
 
--- where no lack was found, it stands there
+-- if no lack was found, it stands there
 pub stands : (over : Setting) (now : Past) (r had : Entry) → kept over r.key ≡ Some had → had.reads ≡ r.reads → AllByRecursion (HasSamePrint over.held now) r.reads
     → print_in over.held r.key ≡ Some (print_of r.value) → StandsIn over now r
 stands over now r had has edges same print = record {
@@ -57,7 +57,7 @@ module _ (f g : ℕ → Key) (old es : List ℕ) where
       ∙ (ap (λ (ks : List Key). ks ++ f (get_or old i 0) ∷ []) so_far ∙ (ap (λ (k : Key). map g (take i es) ++ k ∷ []) same
       ∙ (sym (map-append g (take i es) (get_or es i 0 ∷ [])) ∙ ap (map g) (sym (take_more es i 0 m))))))
 
-  -- where the keys are the same, they are so at each place
+  -- if the keys are the same, they are so at each place
   pub same_there : (i : ℕ) → i < length old → i < length es → map f old ≡ map g es → f (get_or old i 0) ≡ g (get_or es i 0)
   same_there i l m all = sym (get_or-map f old i 0 Files l) ∙ (ap (λ (ks : List Key). get_or ks i Files) all ∙ get_or-map g es i 0 Files m)
 

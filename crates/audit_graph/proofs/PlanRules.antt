@@ -28,7 +28,7 @@ passes rs done i r lt is mark =
     ap (λ (xs : List RecordValue). done ++ executed_from i xs) front
     ∙ ap (λ b. done ++ (if b then i ∷ executed_from (i + 1) (drop (i + 1) rs) else executed_from (i + 1) (drop (i + 1) rs))) mark
 
--- ---- what they tell
+-- ---- what they say
 
 -- the record so many places behind the first, whose index is i
 abbrev IsExecutedBehind : ℕ → List RecordValue → ℕ → Type 0

@@ -13,7 +13,7 @@ use Rattle.audit_graph.specs.Firsts.{IsFirstWithout}
 use Rattle.audit_graph.specs.declared.greens.Lack.{Lack}
 use Rattle.audit_graph.specs.declared.greens.Lack.TheVariants.{WithoutPast, AcrossProfiles, OtherEdges, OverRed, OtherPrint}
 
--- where the key is green, it stands in the previous session
+-- if the key is green, it stands in the previous session
 abbrev pub StandsIfGreen : Setting → Past → Entry → Type 0
 StandsIfGreen over now r = r.mark ≡ Green → StandsIn over now r
 

@@ -27,11 +27,11 @@ pub record HasBytes (now : Past) (q : Key) : Type 0 where
   pub has : now q ≡ Some entry
   pub value : entry.value ≡ values.Source (Some bytes)
 
--- where it is a source, it is one of these
+-- if it is a source, it is one of these
 abbrev pub IsNoStray : List Key → Entry → Type 0
 IsNoStray sources r = kind_of r.key ≡ kinds.Source → Contains sources r.key
 
--- where it is a source, it passes the test
+-- if it is a source, it passes the test
 abbrev pub IsAdmitted : (Key → Bool) → Entry → Type 0
 IsAdmitted test r = kind_of r.key ≡ kinds.Source → test r.key ≡ true
 

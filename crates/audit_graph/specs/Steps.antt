@@ -18,7 +18,7 @@ use Rattle.audit_graph.specs.declared.sources.SourceFault.TheVariants as sources
 use Rattle.audit_graph.specs.declared.fault.AuditFault.{AuditFault}
 use Rattle.audit_graph.specs.declared.fault.AuditFault.TheVariants.{BrokenLink, NoFiles, MissingSource, StraySource, GreenWithoutPast, GreenAcrossProfiles, OtherEdges, GreenOverRed, GreenPrint, OutOfMemory}
 
--- the previous session, as this one is worked over it, where these kinds go by the profile
+-- the previous session, as this one is worked over it, if these kinds go by the profile
 abbrev pub setting_behind : (Kind → Bool) → Option SessionValue → SessionValue → Setting
 setting_behind by_profile past s = setting_of by_profile s.terms.profile past
 
@@ -30,7 +30,7 @@ pub record IsSessionStep (by_profile : Kind → Bool) (past : Option SessionValu
   pub sources : HasSources (entry_at s)
   pub greens : GreensStand (setting_behind by_profile past s) (entry_at s)
 
--- ---- refusals, each where those before it don't hold
+-- ---- refusals, each if those before it don't hold
 
 -- the source of file f is the first that has no bytes
 pub record IsMissingSource (s : SessionValue) (f : ℕ) : Type 0 where

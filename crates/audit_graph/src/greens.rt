@@ -52,7 +52,7 @@ pub(crate) fn first_lack<R: Runner>(
     None
 }
 
-/// Why a record doesn't stand in the previous session, where it is green.
+/// Why a record doesn't stand in the previous session, if it is green.
 fn lack_if_green<R: Runner>(
     past: Option<&Past<'_>>,
     finder: &mut Finder,

@@ -26,7 +26,7 @@ pub fn plan_tells()
 {}
 
 /// For keys that have with each of them all keys of lower rank, and of which the executed ones follow from their edges:
-/// where the previous session has the values and reads of a project by its own profile, and no two different values of
+/// if the previous session has the values and reads of a project by its own profile, and no two different values of
 /// both sessions share a fingerprint, these keys have by the session's profile the values and reads of the project whose
 /// files it holds.
 pub fn front_is_meant()
@@ -43,7 +43,7 @@ pub fn front_is_meant()
         × (r.reads ≡ queries.reads s.terms.profile p q) }
 {}
 
-/// Where all executed keys follow from their edges, the session is right over the previous session.
+/// If all executed keys follow from their edges, the session is right over the previous session.
 pub fn step_is_right()
     ensures { (queries : Queries) → AreLawful queries
         → (past : Option SessionValue) (k : ℕ) (s : SessionValue) (old : Project)
@@ -62,7 +62,7 @@ pub fn before_has_lower()
     ranks_in_order();
 }
 
-/// Where there is no previous session, that counts as a graph with the values and reads of every project, and none of
+/// If there is no previous session, that counts as a graph with the values and reads of every project, and none of
 /// its values shares a fingerprint with another one.
 pub fn no_past_is_meant()
     ensures graph { IsGraph (past_entry None) }

@@ -18,7 +18,7 @@ use sessions::Session;
 use std::alloc::Global;
 
 /// Checks session `k` over the one before it, without running a query: its number and link, the files that it holds,
-/// and its green records. The runner tells which kinds go by the profile. The plan is what is left to run.
+/// and its green records. The runner says which kinds go by the profile. The plan is what is left to run.
 pub fn check_step<R: Runner>(
     alloc: Global,
     past: Option<&Past<'_>>,

@@ -15,7 +15,7 @@ use Rattle.audit_replay.specs.Audits.{AreApart, AreRight, HasValue, HaveFiles, I
 use Rattle.audit_replay.proofs.FileRules.{passed_taken}
 use Rattle.audit_replay.proofs.SessionFiles.{same_sessions}
 
--- what a session holds for its answer, where it has the values that a project gives it by its profile
+-- what a session holds for its answer, if it has the values that a project gives it by its profile
 pub meant_by_last : (queries : Queries) (o : Option SessionValue) (profile : Profile) → IfSome o (λ s. s.terms.profile ≡ profile) → (p : Project) → ArePastMeant queries o p
     → (v : Value) → HasValue (past_entry o) Answer v → v ≡ queries.mean profile p Answer
 meant_by_last queries None profile is p meant v held = absurd (none-some held.entry held.has)

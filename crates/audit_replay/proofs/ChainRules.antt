@@ -20,7 +20,7 @@ use Rattle.audit_replay.specs.Audits.{ArePassed, AreRight, AreApart, last_of}
 use Rattle.audit_replay.proofs.ApartRules.{AreOneByPrint, one_by_print}
 
 module _ (queries : Queries) (laws : AreLawful queries) (all : List SessionValue) (apart : AreOneByPrint all) where
-  -- some project gives the previous session its values and reads, where it is one of any
+  -- some project gives the previous session its values and reads, if it is one of any
   abbrev IsKnown : Option SessionValue → Type 0
   IsKnown past = (p : Project) → IsProject p → (old : Project) × IsProject old × ArePastMeant queries past old
 
@@ -82,7 +82,7 @@ module _ (queries : Queries) (laws : AreLawful queries) (all : List SessionValue
       let l = last_known None ss tt none_graph (λ q is. (q, is, none_meant queries q)) inside each right in
       right_over (last_of None ss) k s l.1 l.2 l.0 c session p
 
-  -- the keys before a key, where the executed ones among them follow from their edges
+  -- the keys before a key, if the executed ones among them follow from their edges
   pub before_means : (past : Option SessionValue) → IsSound past → (k : ℕ) (s : SessionValue) → Contains all s → IsSession s → IsSessionStep queries.by_profile past k s → (p : Project) → AreSources (entry_at s) p
       → (key : Key) → AreWithLower (is_before key) → AreReplayed (queries.mean s.terms.profile) (queries.reads s.terms.profile) (entry_at s) (is_before key)
       → (q : Key) (r : Entry) → is_before key q ≡ true → entry_at s q ≡ Some r → (r.value ≡ queries.mean s.terms.profile p q) × (r.reads ≡ queries.reads s.terms.profile p q)

@@ -46,7 +46,7 @@ begins_in told read edges es records a b h =
 
 -- ---- the outcome of a run
 
--- what follows in a profile from what a run told
+-- what follows in a profile from what a run read
 pub backed_in : (queries : Queries) (o : OutcomeValue) (profile : Profile) (key : Key) (told : List ReadValue) → o.profile ≡ profile → o.key ≡ key → o.told ≡ told
     → IsOutcome (queries.mean o.profile) (queries.reads o.profile) o → Backed (queries.mean profile) (queries.reads profile) key told o.value
 backed_in queries o profile key told in_profile of_key as_told outcome =
@@ -68,7 +68,7 @@ refused_unread script (Some r) k e (inr b) = elim b.1.2 [
 pub at_some : (P : Key → Type 0) (o : Option Key) (k : Key) → o ≡ Some k → IfSome o P → P k
 at_some P o k e h = subst (λ x. IfSome x P) e h
 
--- ---- what is told of the edges
+-- ---- what is given for the edges
 
 -- the recorder's answers are those that the session holds
 pub told_held : (now : Past) (script told : List ReadValue) → AllByRecursion (IsHeld now) script → AllByRecursion (λ t. Contains script (record { key = t.key; value = t.value })) told → AllByRecursion (IsHeld now) told

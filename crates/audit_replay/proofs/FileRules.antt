@@ -27,7 +27,7 @@ pub last_more : (past : Option SessionValue) (ss : List SessionValue) (s : Sessi
 last_more past [] s = refl
 last_more past (t ∷ ts) s = last_more (Some t) ts s
 
--- no session is the last one only where there is none
+-- there is no last session only if there is no session
 pub none_last : (ss : List SessionValue) → last_of None ss ≡ None → ss ≡ []
 none_last [] e = refl
 none_last (s ∷ ss) e = absurd (some_last s ss e)

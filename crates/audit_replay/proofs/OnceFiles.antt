@@ -98,7 +98,7 @@ module _ (queries : Queries) where
     refused = subst (λ (x : SessionValue). IsRefusedFile queries (last_of (Some x) ss) a.place file fault) same a.refused;
   }
 
-  -- the first file isn't refused where its session passes
+  -- the first file isn't refused if its session passes
   not_first : (past : Option SessionValue) (k : ℕ) (t : SessionValue) → IsSession t → Passes queries past k t → (file : List ℕ) (rest files : List (List ℕ)) (fault : AuditFault)
       → file ≡ file_of t → IsRefusedLater past k [] file rest files fault → ⊥
   not_first past k t session p file rest files fault same a =
@@ -130,7 +130,7 @@ module _ (queries : Queries) where
       one_from (Some t) (k + 1) (map file_of ss ++ fa ∷ ra) (map file_of ts ++ fb ∷ rb) f g ss ts fa fb ra rb later
       (behind_first past k s t ss fa ra files f same a) (behind_first past k t t ts fb rb more g refl b)
 
-  -- where all files pass, none is refused
+  -- if all files pass, none is refused
   none_from : (past : Option SessionValue) (k : ℕ) (files : List (List ℕ)) (f : AuditFault) (ss ts : List SessionValue) (fa : List ℕ) (ra : List (List ℕ))
       → IsRefusedLater past k ss fa ra files f → map file_of ts ≡ files → AllByRecursion IsSession ts → ArePassed queries past k ts → ⊥
   none_from past k files f [] [] fa ra a e each passed = absurd (let h : (fa ∷ ra) ≡ [] = a.spelled ∙ sym e in cc)

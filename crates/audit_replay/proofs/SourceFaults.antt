@@ -47,7 +47,7 @@ module _ (now : Past) (p : Project) (sources : AreSources now p) where
   pub held_names : (names : List (List ℕ)) → HasFiles now names → names ≡ names_of p
   held_names names held = one_names now names (names_of p) held (names_held now p sources)
 
--- ---- what a session tells
+-- ---- what a session says
 
 -- an entry is what the session says about its key
 pub told_of_entry : (s : SessionValue) → IsSession s → (r : Entry) → Contains (entries s) r → entry_at s r.key ≡ Some r

@@ -35,7 +35,7 @@ AreRight queries past [] = Unit {0}
 AreRight queries past (s ∷ ss) =
     IsRightAfter queries past s × AreRight queries (Some s) ss
 
--- the last of the sessions, which is the previous session where there is none
+-- the last of the sessions, which is the previous session if there is none
 abbrev pub last_of : Option SessionValue → List SessionValue → Option SessionValue
 last_of past [] = past
 last_of past (s ∷ ss) = last_of (Some s) ss
@@ -89,7 +89,7 @@ IsLastProfile sessions profile = IfSome (last_of None sessions) (λ s. s.terms.p
 
 -- The audit accepts the files, with this answer, in this profile and over this project. The files
 -- are those of a chain of sessions, of which the last is of the profile, and holds the answer and
--- the project's files. Where no two different results in them share a fingerprint, each session is
+-- the project's files. If no two different results in them share a fingerprint, each session is
 -- right over the one before, and the answer is what the project means by it in the profile.
 pub record IsAccepted (queries : Queries) (files : List (List ℕ))
     (old new : List Key) (profile : Profile) (project : Project) (answer : Value)

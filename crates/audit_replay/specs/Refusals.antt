@@ -16,7 +16,7 @@ use Rattle.audit_graph.specs.declared.fault.AuditFault.{AuditFault}
 use Rattle.audit_graph.specs.declared.fault.AuditFault.TheVariants.{OtherRead, UnreadEdges, OtherResult, OutOfMemory}
 use Rattle.audit_replay.specs.Audits.{ArePassed, AreApart, AreRight, last_of}
 
--- The record has the value and the edges that its key means and reads in the project, and where it
+-- The record has the value and the edges that its key means and reads in the project, and if it
 -- is green, it stands in the previous session.
 pub record IsRightRecord (mean : Meaning) (reads : ReadLists) (over : Setting) (now : Past)
     (p : Project) (r : Entry) : Type 0 where
@@ -40,7 +40,7 @@ pub record IsFirstWrong (queries : Queries) (past : Option SessionValue) (s : Se
       → map (key_at s.records) item.edges ≡ queries.reads s.terms.profile project item.key → ⊥
 
 -- File k is that of a session behind sessions that pass: it is linked to them, it holds the files
--- of a project, and its green records stand in the last of them. Where no two different results in
+-- of a project, and its green records stand in the last of them. If no two different results in
 -- it and in them share a fingerprint, they are right, and record n is the first of its session that
 -- is wrong.
 pub record HasFirstWrong (queries : Queries) (files : List (List ℕ))

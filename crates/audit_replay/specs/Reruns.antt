@@ -25,7 +25,7 @@ pub record AreAllEdges (now : Past) (r : Entry) (told : List ReadValue) : Type 0
   pub edges : keys told ≡ r.reads
   pub held : AllByRecursion (IsHeld now) told
 
--- Where the first i edges have their values, the next read isn't edge i, or there is no edge i.
+-- If the first i edges have their values, the next read isn't edge i, or there is no edge i.
 pub record ReadsOther (mean : Meaning) (reads : ReadLists) (now : Past) (r : Entry)
     (i : ℕ) : Type 0 where
   pub told : List ReadValue
@@ -34,7 +34,7 @@ pub record ReadsOther (mean : Meaning) (reads : ReadLists) (now : Past) (r : Ent
   pub next : IsNext mean reads r.key told key
   pub other : slice_get r.reads i ≢ Some key
 
--- Where the first of the edges have their values, there is no other read, but there are more edges.
+-- If the first of the edges have their values, there is no other read, but there are more edges.
 pub record LeavesEdges (mean : Meaning) (reads : ReadLists) (now : Past) (r : Entry) : Type 0 where
   pub count : ℕ
   pub few : count < length r.reads
@@ -42,7 +42,7 @@ pub record LeavesEdges (mean : Meaning) (reads : ReadLists) (now : Past) (r : En
   pub first : AreFirstEdges now r count told
   pub whole : (p : Project) → Gives mean p told → reads p r.key ≡ keys told
 
--- Where the edges have their values, they are what is read, and another value follows.
+-- If the edges have their values, they are what is read, and another value follows.
 pub record HasOtherResult (mean : Meaning) (reads : ReadLists) (now : Past)
     (r : Entry) : Type 0 where
   pub told : List ReadValue

@@ -39,7 +39,7 @@ AreTexts now _ _ = ⊥
 abbrev pub AreTextsIn : Past → List Value → Type 0
 AreTextsIn now texts = (names : List (List ℕ)) → HasFiles now names → AreTexts now names texts
 
--- the value that a session holds for its answer, where it has one
+-- the value that a session holds for its answer, if it has one
 abbrev pub IsAnswer : SessionValue → Option (Arc Value Global) → Type 0
 IsAnswer s answer = MatchOption answer (entry_at s Answer ≡ None)
     (λ a. HasValue (entry_at s) Answer (arc_value a))
@@ -73,7 +73,7 @@ Sums (Err fault) sessions = ⊥
 -- ---- one more session
 
 -- The file of session s was taken, whole, which passes behind all sessions summed before. They and
--- it are summed now, and are a chain of right sessions where they were one, unless two different
+-- it are summed now, and are a chain of right sessions if they were one, unless two different
 -- results in them share a fingerprint. Just its executed records were run, in order.
 pub record TakesSession (queries : Queries) (old new : Result Sum AuditFault)
     (held left : List ℕ → Type 0) (log_old log_new : List Key) (s : SessionValue) : Type 0 where
@@ -116,7 +116,7 @@ abbrev pub CountsTake : {A : Type 0} → Result A AuditFault → ℕ → ℕ →
 CountsTake (Ok a) old new = new ≡ old
 CountsTake (Err fault) old new = CountsFault fault old new
 
--- where the feed gave no byte it is at its end, else it held one
+-- if the feed gave no byte it is at its end, else it held one
 abbrev pub EndsFeed : {E : Type 0} → (List ℕ → Type 0) → (List ℕ → Type 0) → Result Bool E → Type 0
 EndsFeed old new (Ok true) = (bytes : List ℕ) → old bytes → (bytes ≡ []) × new bytes
 EndsFeed old new (Ok false) = (bytes : List ℕ) → old bytes → bytes ≢ []
@@ -125,7 +125,7 @@ EndsFeed old new (Err e) = Unit {0}
 -- ---- the end
 
 -- The last of the sessions is of this profile and has this answer, and there are this many
--- sessions, with this many executed records. Where they are a chain of right sessions, it is what
+-- sessions, with this many executed records. If they are a chain of right sessions, it is what
 -- the last one's files mean by it in the profile.
 pub record EndAccepts (queries : Queries) (ss : List SessionValue)
     (a : Audited) : Type 0 where

@@ -12,7 +12,7 @@ use named_files::Project;
 use recorder::Runner;
 use std::alloc::Global;
 
-/// Audits a chain as `audit` does, and tells whether the last session's files are those of the project.
+/// Audits a chain as `audit` does, and says whether the last session's files are those of the project.
 pub fn audit_against<R: Runner>(
     alloc: Global,
     runner: &mut R,
@@ -27,7 +27,7 @@ pub fn audit_against<R: Runner>(
     ensures profile { IfOk result (λ a. (sessions : List SessionValue)
         → HaveFiles sessions (map (λ f. f.now) chain.now)
         → IsLastProfile sessions a.profile) }
-    // and where no two different results in them share a fingerprint, each is right over the one before,
+    // and if no two different results in them share a fingerprint, each is right over the one before,
     ensures right { IfOk result (λ _. (sessions : List SessionValue)
         → HaveFiles sessions (map (λ f. f.now) chain.now) → AreApart sessions
         → AreRight R.queries None sessions) }

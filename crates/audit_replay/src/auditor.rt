@@ -55,17 +55,17 @@ impl<R: Runner> Auditor<R> {
         ensures taken { OnOk result ((s : SessionValue) × TakesSession R.queries self.old.state
             self.new.state (F.holds feed.old) (F.holds feed.new) (R.log runner.old)
             (R.log runner.new) s) }
-        // Why it is refused after the sessions taken before, by the bytes that the feed held, if it tells them.
+        // Why it is refused after the sessions taken before, by the bytes that the feed held, if it says which.
         ensures refused { IfErr result (λ fault. (ss : List SessionValue) (bytes : List ℕ)
             → Sums self.old.state ss → F.holds feed.old bytes
             → TakeRefuses R.queries ss bytes (R.log runner.old) (R.log runner.new) fault) }
-        // Whatever the feed tells: no more was run than executed records of a session, in order.
+        // Whatever the feed says of its bytes: no more was run than executed records of a session, in order.
         ensures log { IfErr result (λ _. RunsPart (R.log runner.old) (R.log runner.new)) }
         ensures kept { IfErr result (λ fault. self.new.state ≡ Err fault) }
         // What was refused once is refused again.
         ensures again { (fault : Fault) → self.old.state ≡ Err fault
             → (result ≡ Err fault) × (feed.new ≡ feed.old) × (runner.new ≡ runner.old) }
-        // A failure of the device is answered exactly where it was counted.
+        // A failure of the device is answered exactly if it was counted.
         ensures counted { (ss : List SessionValue) → Sums self.old.state ss
             → CountsTake result (F.failed feed.old) (F.failed feed.new) }
     {
@@ -109,7 +109,7 @@ impl<R: Runner> Auditor<R> {
         }
     }
 
-    /// The same, where the last session's files are those of the project.
+    /// The same, if the last session's files are those of the project.
     pub fn end_against(self, project: &Project) -> Result<Audited, AuditFault>
         ensures gives { (ss : List SessionValue) → Sums self.state ss
             → EndGivesAgainst R.queries ss project.now result }

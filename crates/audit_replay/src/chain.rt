@@ -38,7 +38,7 @@ impl Drop for Audited {
     }
 }
 
-/// Audits the files of a chain of sessions that begins with an empty cache. Where no two different results that they
+/// Audits the files of a chain of sessions that begins with an empty cache. If no two different results that they
 /// record share a fingerprint, each session of an accepted chain is right over the one before, and the answer is what
 /// the files of the last one mean, whoever wrote them.
 pub fn audit<R: Runner>(
@@ -54,7 +54,7 @@ pub fn audit<R: Runner>(
     ensures profile { IfOk result (λ a. (sessions : List SessionValue)
         → HaveFiles sessions (map (λ f. f.now) chain.now)
         → IsLastProfile sessions a.profile) }
-    // and where no two different results in them share a fingerprint, each is right over the one before,
+    // and if no two different results in them share a fingerprint, each is right over the one before,
     ensures right { IfOk result (λ _. (sessions : List SessionValue)
         → HaveFiles sessions (map (λ f. f.now) chain.now) → AreApart sessions
         → AreRight R.queries None sessions) }

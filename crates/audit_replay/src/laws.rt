@@ -18,7 +18,7 @@ ghost use Rattle.audit_replay.specs.Refusals.{HasFirstWrong, IsToldByFiles};
 
 use item_ids::ranks_in_order;
 
-/// Where each session passes over the one before, and no two different results in them share a fingerprint, each is
+/// If each session passes over the one before, and no two different results in them share a fingerprint, each is
 /// right over the one before, and each key of the last one has the value that it means by that session's profile in the
 /// project whose files the session holds.
 pub fn passed_are_right()
@@ -35,7 +35,7 @@ pub fn passed_are_right()
         → ArePastMeant queries (last_of None sessions) p }
 {}
 
-/// Where an audit refuses a record that differs from its run, the record is wrong, unless two different results up to
+/// If an audit refuses a record that differs from its run, the record is wrong, unless two different results up to
 /// it share a fingerprint: it doesn't have the value and the edges that its session's files give its key, and all
 /// sessions and all records before it are right.
 pub fn refused_records_are_wrong()
@@ -83,7 +83,7 @@ pub fn files_tell_their_sessions()
 {}
 
 /// Of all refusals that follow from the files alone at most one holds, whatever was run before, so that an audit which
-/// answers one of them answers it exactly where it holds.
+/// answers one of them answers it exactly if it holds.
 pub fn one_refusal_holds()
     ensures alone { (queries : Queries) (files : List (List ℕ))
         (old new before after : List Key) (one other : AuditFault)

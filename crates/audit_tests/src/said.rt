@@ -35,7 +35,7 @@ pub(crate) fn said_of_two(alloc: Global, first: &Turned, second: &Turned) -> Sai
     said_of_two_as(alloc, Terms::first(), first, second)
 }
 
-/// The same, where the second has these terms.
+/// The same, if the second has these terms.
 pub(crate) fn said_of_two_as(alloc: Global, terms: Terms, first: &Turned, second: &Turned) -> Said {
     match file_behind(alloc, terms, first, second) {
         Ok(file) => said_with(alloc, first, file.bytes()),

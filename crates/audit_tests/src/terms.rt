@@ -14,7 +14,7 @@ use sessions::{Form, Mark, Terms};
 use std::alloc::{AllocError, Global};
 use std::test::*;
 
-/// The terms of the second session, whether its class was checked again, where its other records are green, and what is
+/// The terms of the second session, whether its class was checked again (its other records are green), and what is
 /// said of both.
 struct Row {
     terms: Terms,
@@ -114,7 +114,7 @@ fn second_file(alloc: Global, row: &Row) -> Result<MemorySink, Unfit> {
     file_of_session(alloc, &second)
 }
 
-/// What is said of both, where an accepted chain has the profile of the second.
+/// What is said of both, if an accepted chain has the profile of the second.
 fn said_of(alloc: Global, row: &Row) -> Said {
     match (file_of(alloc, FIRST), second_file(alloc, row)) {
         (Ok(first), Ok(second)) => said_of_files(alloc, &[first.bytes(), second.bytes()], row),

@@ -48,7 +48,7 @@ abbrev pub own_reads : World → (List Ty → Inquiry Verdict) → Option (List 
 own_reads w row None = []
 own_reads w row (Some ts) = asked_in w (row ts)
 
--- a phrase: its parts' in their order, then, where all have types, its own
+-- a phrase: its parts' in their order, then, if all have types, its own
 abbrev mutual
   pub phrase_reads : World → Phrase → List Key
   phrase_reads w (phrase mark row parts) = parts_reads w parts ++ own_reads w row (types_of w parts)

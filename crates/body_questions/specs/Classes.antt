@@ -7,7 +7,7 @@ use Rattle.result_bytes.specs.Payloads.{ChainValue}
 use Rattle.result_bytes.specs.Parts.{header_in, supers_in}
 use Rattle.result_bytes.specs.declared.value.Value.{Value}
 
--- a header tells that its class is declared
+-- a header says that its class is declared
 abbrev pub is_declared_in : Value → Bool
 is_declared_in v = is_some (header_in v)
 

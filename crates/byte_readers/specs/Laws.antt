@@ -389,7 +389,7 @@ lawful_list {A} {p} {sp} {P} law admits = record {
       (list_again law admits as1 [] rest h.fit h.admitted);
 }
 
--- where any item is admitted
+-- if any item is admitted
 pub any_admits : {A : Type 0} (front items : List A) → Admitted any front items
 any_admits front [] = tt
 any_admits front (a ∷ items) = (refl, any_admits (front ++ a ∷ []) items)
@@ -402,7 +402,7 @@ lawful_where {A} {p} {sp} {P} {Q} law to from = record {
   again = λ a rest h. law.again a rest (from a h);
 }
 
--- where nothing is asked of the items
+-- if nothing is asked of the items
 pub all_storable : {A : Type 0} (items : List A) → AllByRecursion (λ (a : A). Unit {0}) items
 all_storable [] = tt
 all_storable (a ∷ items) = (tt, all_storable items)

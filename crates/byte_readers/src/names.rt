@@ -54,7 +54,7 @@ pub fn read_name_text(bytes: &[u8]) -> Result<(&str, &[u8]), ReadError>
     Ok((text, rest))
 }
 
-/// The bytes as a text, where they are UTF-8.
+/// The bytes as a text, if they are UTF-8.
 pub fn as_text(bytes: &[u8]) -> Option<&str>
     ensures same { IfSome result (λ text. text.now ≡ bytes.now) }
     ensures is_text { is_some result ≡ is_utf8 bytes.now }

@@ -97,7 +97,7 @@ fn names_that_may_be_missing(rt: HostRuntime) -> Result<(), Fail> {
     Ok(())
 }
 
-// Whether this is the name, or there is none where it is empty.
+// Whether this is the name, or there is none if it is empty.
 fn is_named(name: &Option<Name>, want: &str) -> bool {
     match name {
         None => want.is_empty(),
@@ -105,7 +105,7 @@ fn is_named(name: &Option<Name>, want: &str) -> bool {
     }
 }
 
-// Whether there is just this name, or none where it is empty.
+// Whether there is just this name, or none if it is empty.
 fn is_option(rt: HostRuntime, bytes: &[u8], want: &str) -> bool {
     match read_option::<NameFormat>(rt.alloc(), bytes) {
         Ok((name, rest)) => rest.is_empty() && is_named(&name, want),

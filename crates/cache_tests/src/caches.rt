@@ -46,7 +46,7 @@ fn keep<R: Files + AllocGlobal + Threads>(
     written(write_file(rt, rt, dir, place, &session, 1))
 }
 
-/// Fails where a file wasn't written.
+/// Fails if a file wasn't written.
 fn written(ending: Result<(), CacheWriteFault>) -> Result<(), Fail> {
     match ending {
         Ok(()) => Ok(()),

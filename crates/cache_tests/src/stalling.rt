@@ -10,7 +10,7 @@ use std::test::*;
 /// How many bytes a writer takes in one call at most.
 const MOST: [usize; 3] = [1, 7, 5000];
 
-/// Whether the file is written to the writer, or the sink fails once where there is no room for all of it.
+/// Whether the file is written to the writer, or the sink fails once if there is no room for all of it.
 fn ends(alloc: Global, writer: &mut StallingWriter, is_whole: bool) -> bool {
     let mut sink = WriterSink::new(writer);
     match write_to(alloc, first(), &mut sink) {
@@ -20,7 +20,7 @@ fn ends(alloc: Global, writer: &mut StallingWriter, is_whole: bool) -> bool {
     }
 }
 
-/// Whether a writer with room for so many bytes gets as much of the file, and all of it is told just where it has it.
+/// Whether a writer with room for so many bytes gets as much of the file, and the write succeeds just if all fits.
 fn is_filled(alloc: Global, file: &[u8], most: usize, room: usize) -> bool {
     let mut writer = StallingWriter::new(alloc, most, room);
     let is_ended = ends(alloc, &mut writer, file.len() <= room);

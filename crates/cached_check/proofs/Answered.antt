@@ -23,10 +23,10 @@ use Rattle.graph_rules.proofs.SessionRules.{session_graph, told_of_entry, entry_
 use Rattle.key_states.specs.Closing.{IsFull}
 use Rattle.session_cache.specs.Names.{most}
 use Rattle.next_sessions.specs.Nexts.{StandsApart, IsNextSession}
-use Rattle.driver.specs.Sessions.{DriveGives, IsCrew, IsSessionOf}
-use Rattle.driver.specs.declared.fault.DriveFault.{DriveFault}
-use Rattle.driver.specs.declared.fault.DriveFault.TheVariants as drive
-use Rattle.driver.specs.declared.reports.Reports.{Reports}
+use Rattle.mini_java.specs.Sessions.{DriveGives, IsCrew, IsSessionOf}
+use Rattle.mini_java.specs.DriveFault.{DriveFault}
+use Rattle.mini_java.specs.DriveFault.TheVariants as drive
+use Rattle.mini_java.specs.Reports.{Reports}
 use Rattle.mini_java.proofs.Headline.{means_the_rules}
 use Rattle.cached_check.specs.Checks.{RecordsAnswer, IsNextByRules, IsMadeOver}
 

@@ -10,7 +10,7 @@ use Rattle.sessions.specs.declared.terms.Terms.{Terms}
 use Rattle.sessions.specs.Sessions.{Entry, SessionValue, entry_at, session_in}
 use Rattle.graph_rules.specs.Steps.{Event}
 use Rattle.next_sessions.specs.Nexts.{StandsApart, IsNextSession}
-use Rattle.driver.specs.Sessions.{AreEventsOf}
+use Rattle.mini_java.specs.Sessions.{AreEventsOf}
 use Rattle.session_cache.specs.Starts.{IsLastChain, IsStart, IsStartBehind}
 use Rattle.session_cache.specs.declared.start.LastChain.{LastChain}
 use Rattle.session_cache.specs.declared.start.Start.{Start}
@@ -50,7 +50,7 @@ pub record IsNextByRules (terms : Terms) (past : Option SessionValue) (p : Proje
 
 -- A legal history of a session of these terms over the previous session and the project closes with the
 -- session. Each outcome in it is one that MiniJava's queries give to their reads, and it records the
--- answer. Where it stands apart from the previous session, it is the next one, with the answer of the
+-- answer. If it stands apart from the previous session, it is the next one, with the answer of the
 -- static rules.
 pub record IsMadeOver (terms : Terms) (past : Option SessionValue) (p : Project)
     (s : SessionValue) : Type 0 where

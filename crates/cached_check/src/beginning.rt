@@ -26,7 +26,7 @@ pub struct Beginning {
 }
 
 /// Where the next session begins in the cache of this folder: behind the last session of the last chain, or in a new chain
-/// where that one can't be followed. An empty word names no folder, and can't be read. So many workers read the last session,
+/// if that one can't be followed. An empty path names no folder, and can't be read. So many workers read the last session,
 /// each in a thread of its own.
 #[tactic(auto, using(crate::proofs::Beginnings::begun))]
 pub fn begin<R: Files + AllocGlobal, T: Threads + Sync>(

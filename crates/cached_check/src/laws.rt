@@ -4,7 +4,7 @@ ghost use Rattle.query_rules.specs.Queries.{queries};
 ghost use Rattle.sessions.specs.Sessions.{SessionValue};
 ghost use Rattle.next_sessions.specs.Nexts.{StandsApart};
 
-/// Where there is no previous session, each session stands apart from it.
+/// If there is no previous session, each session stands apart from it.
 pub fn first_stands_apart()
     ensures { (s : SessionValue) → StandsApart queries None s }
 {}

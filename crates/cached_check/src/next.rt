@@ -2,13 +2,12 @@
 ghost use Rattle.std.specs.Prelude.{◌≡◌, ◌<◌, IfOk, IfErr, IfSome};
 ghost use Rattle.session_cache.specs.Names.{most};
 ghost use Rattle.sessions.specs.Sessions.{session_in};
-ghost use Rattle.driver.specs.Sessions.{IsCrew};
+ghost use Rattle.mini_java.specs.Sessions.{IsCrew};
 ghost use Rattle.query_rules.specs.Queries.{queries};
 ghost use Rattle.next_sessions.specs.Nexts.{StandsApart};
 ghost use Rattle.cached_check.specs.Checks.{IsMadeOver, IsNextByRules};
 
-use driver::changed_files;
-use mini_java::{DriveFault, Open, run_session_alone, run_session_as};
+use mini_java::{DriveFault, Open, changed_files, run_session_alone, run_session_as};
 use mj_rules::answer_laws;
 use named_files::Project;
 use sessions::{Session, Terms};
@@ -17,7 +16,7 @@ use std::sync::{Arc, Wait};
 use std::thread::Threads;
 
 /// The session of a project, of these terms, that follows the previous one, made by so many workers at most, each in a thread
-/// of its own, and by no more of them than files have changed. Where the previous session is one of some project, or there
+/// of its own, and by no more of them than files have changed. If the previous session is one of some project, or there
 /// is none, and no two different results, one of it and one of this session, share a fingerprint, it is the session that any
 /// workers make, and its answer is what the static rules of its profile give the project's files. There is none only if
 /// memory runs out.

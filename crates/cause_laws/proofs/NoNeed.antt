@@ -26,7 +26,7 @@ use Rattle.session_causes.specs.declared.cause.Cause.TheVariants.{NothingChanged
 use Rattle.session_causes.specs.declared.cause.Why.{Why}
 use Rattle.session_causes.specs.Causes.{AreWhys, IsRightWhy, IsExplained, IsWhy, first_red, have_same_print, is_red, mark_at}
 
--- where none is found, none passes
+-- if none is found, none passes
 none_passes : {X : Type 0} (test : X → Bool) (xs : List X) → find test xs ≡ None → AllByRecursion (λ x. test x ≡ false) xs
 none_passes test [] none = tt
 none_passes {X} test (x ∷ xs) none =

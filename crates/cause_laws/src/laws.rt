@@ -12,8 +12,8 @@ ghost use Rattle.session_causes.specs.declared.cause.Cause.TheVariants.{NothingC
 ghost use Rattle.session_causes.specs.declared.cause.Why.{Why};
 ghost use Rattle.session_causes.specs.Causes.{AreWhys, IsWhy};
 
-/// In a session that is next over the one before no query was executed though all that it had read there stayed as it was
-/// and its kind doesn't go by another profile. So none of the lines that tell why its queries were executed says that
+/// In a session that is next over the one before, no query was executed whose reads in that one all stayed as they were,
+/// unless its kind goes by another profile. So none of the lines on why its queries were executed says that
 /// nothing changed.
 pub fn next_has_causes()
     ensures cause { (queries : Queries) (terms : Terms) (past : Option SessionValue) (p : Project)

@@ -35,7 +35,7 @@ pub fn next_goes_on()
         → IsRightChain queries (sessions ++ next ∷ []) }
 {}
 
-/// Where files were accepted, they and the file of the next session of a project over the last one are refused only
+/// If files were accepted, they and the file of the next session of a project over the last one are refused only
 /// because memory runs out, unless two different results in all of them share a fingerprint.
 pub fn next_is_accepted()
     ensures { (queries : Queries) → AreLawful queries

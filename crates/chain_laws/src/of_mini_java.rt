@@ -25,7 +25,7 @@ pub fn reads_own_files()
     ensures { (profile : Profile) (p : Project) → ReadsOwnFiles (reads profile) p }
 {}
 
-/// Where files were accepted, they and the file of the next session of a project over the last one are refused only
+/// If files were accepted, they and the file of the next session of a project over the last one are refused only
 /// because memory runs out, unless two different results in all of them share a fingerprint.
 pub fn next_of_mini_java_is_accepted()
     ensures { (files : List (List ℕ)) (old new : List Key) (profile : Profile)

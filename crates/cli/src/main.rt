@@ -16,7 +16,7 @@ fn main(rt: HostRuntime) -> ExitCode {
     ExitCode::from(status)
 }
 
-// The words of the command line. They are pushed one by one, since `collect` goes on where its first allocation is
+// The arguments of the command line. They are pushed one by one, since `collect` goes on if its first allocation is
 // refused.
 fn command_words<R: Env + AllocGlobal>(rt: &R) -> io::Result<Vec<String>> {
     let mut list = Vec::new(rt.alloc());

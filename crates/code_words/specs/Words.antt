@@ -9,7 +9,7 @@ use Rattle.code_words.specs.declared.texts.phrases.TheConstants.{OPERANDS_CODES,
 use Rattle.code_words.specs.declared.texts.project.TheConstants.{PROJECT_CODES, PROJECT_TEXTS}
 use Rattle.code_words.specs.declared.texts.projects.TheConstants.{PROJECTS_CODES, PROJECTS_TEXTS}
 
--- the text that stands at the place of the first of these codes that is the word
+-- the text that stands at the place of the first of these codes that is the argument
 unfoldable pub text_in : List (List ℕ) → List (List ℕ) → List ℕ → Option (List ℕ)
 text_in cs texts word = option_and_then (slice_get texts) (position (λ c. bytes_eq c word) cs)
 
@@ -100,6 +100,6 @@ session_text word = option_or (file_text word) (chain_text word)
 abbrev pub refusal_text : List ℕ → Option (List ℕ)
 refusal_text word = option_or (text_in projects_codes projects_texts word) (session_text word)
 
--- the text that a word asks for, if it is a code
+-- the text that an argument asks for, if it is a code
 abbrev pub text_of : List ℕ → Option (List ℕ)
 text_of word = option_or (diagnostic_text word) (refusal_text word)

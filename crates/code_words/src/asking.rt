@@ -14,10 +14,10 @@ use std::alloc::{AllocError, Global};
 use std::fmt::Write;
 use thiserror::Error;
 
-/// Why words aren't explained.
+/// Why arguments aren't explained.
 #[derive(Debug, Drop, Error)]
 pub enum ExplainFault {
-    /// This word is no code.
+    /// This argument is no code.
     #[error("unknown code '{0}'")]
     Unknown(String),
     /// Memory ran out.
@@ -25,8 +25,8 @@ pub enum ExplainFault {
     OutOfMemory,
 }
 
-/// What the codes that are asked for mean, in this order, with an empty line between two; or the first word that is no
-/// code.
+/// What the codes that are asked for mean, in this order, with an empty line between two; or the first argument that
+/// is no code.
 pub fn explain(alloc: Global, asked: &[String]) -> Result<String, ExplainFault>
     ensures { ExplainGives asked.now result }
 {
@@ -39,14 +39,14 @@ pub fn explain(alloc: Global, asked: &[String]) -> Result<String, ExplainFault>
     }
 }
 
-/// The first word that is no code.
+/// The first argument that is no code.
 fn unknown_word(asked: &[String]) -> Option<&String>
     ensures { option_copied result ≡ first_unknown asked.now }
 {
     asked.iter().find(|word| text_of(word.as_str()).is_none())
 }
 
-/// The fault that has a copy of this word.
+/// The fault that has a copy of this argument.
 fn unknown(alloc: Global, word: &str) -> ExplainFault
     ensures { IsWordFault word.now result }
 {
@@ -56,7 +56,7 @@ fn unknown(alloc: Global, word: &str) -> ExplainFault
     }
 }
 
-/// The texts of these words.
+/// The texts of these arguments.
 fn explained_text(alloc: Global, asked: &[String]) -> Result<String, AllocError>
     ensures { IfOk result (λ text. string_bytes text ≡ explained asked.now) }
 {
@@ -80,7 +80,7 @@ fn write_asked(text: &mut String, asked: &[String]) -> Result<(), AllocError>
     Ok(())
 }
 
-/// Adds the text of a word.
+/// Adds the text of an argument.
 fn write_word(text: &mut String, word: &String) -> Result<(), AllocError>
     ensures { OnOk result
         (string_bytes text.new ≡ string_bytes text.old ++ word_text word.now) }
@@ -91,7 +91,7 @@ fn write_word(text: &mut String, word: &String) -> Result<(), AllocError>
     }
 }
 
-/// What is said of a word that is no code: that it is none, and all that there are.
+/// What is said of an argument that is no code: that it is none, and all that there are.
 pub fn unknown_text(alloc: Global, word: &str) -> Result<String, AllocError>
     ensures { IfOk result (λ text. string_bytes text ≡ unknown_text_of word.now) }
 {

@@ -15,7 +15,7 @@ use crate::texts::phrases::{OPERANDS_CODES, OPERANDS_TEXTS, USES_CODES, USES_TEX
 use crate::texts::project::{PROJECT_CODES, PROJECT_TEXTS};
 use crate::texts::projects::{PROJECTS_CODES, PROJECTS_TEXTS};
 
-/// The text that a word asks for, if it is a code.
+/// The text that an argument asks for, if it is a code.
 pub(crate) fn text_of(word: &str) -> Option<&'static str>
     ensures { option_map (λ text. text.now) result ≡ text_of word.now }
 {
@@ -98,7 +98,7 @@ fn either(first: Option<&'static str>, second: Option<&'static str>) -> Option<&
     }
 }
 
-/// The text that stands at the place of the first of these codes that is the word.
+/// The text that stands at the place of the first of these codes that is the argument.
 fn text_in(codes: &[&'static str], texts: &[&'static str], word: &str) -> Option<&'static str>
     ensures { option_map (λ text. text.now) result ≡ text_in
         (map (λ code. code.now) codes.now) (map (λ text. text.now) texts.now) word.now }
@@ -109,7 +109,7 @@ fn text_in(codes: &[&'static str], texts: &[&'static str], word: &str) -> Option
     }
 }
 
-/// The place of the first of these codes that is the word.
+/// The place of the first of these codes that is the argument.
 fn place_of(codes: &[&'static str], word: &str) -> Option<usize>
     ensures { result ≡ position (λ code. bytes_eq code.now word.now) codes.now }
 {

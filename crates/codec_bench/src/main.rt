@@ -1,5 +1,5 @@
-//! Does one thing again and again, for the scripts of `bench/`: its words are what is done, how often, and a file with the
-//! canonical bytes of a tree or with those of a session's file. It ends with status 2 where the words or the bytes are no good.
+//! Does one thing again and again, for the scripts of `bench/`: its arguments are what is done, how often, and a file with
+//! the canonical bytes of a tree or with those of a session's file. It ends with status 2 if arguments or bytes are no good.
 #![tactic(auto)]
 
 use devices::MemorySink;
@@ -80,7 +80,7 @@ fn write_session(alloc: Global, session: &Session) -> io::Result<()> {
     }
 }
 
-/// The bytes are read; then their value is spelled or sealed where the step says so.
+/// The bytes are read; then their value is spelled or sealed if the step says so.
 fn tree_once(alloc: Global, step: &str, bytes: &[u8]) -> io::Result<()> {
     let value = read(alloc, bytes)?;
     match step {

@@ -1,10 +1,10 @@
-//! Codes that are explained, a sentence, and a word that is no code.
+//! Codes that are explained, a sentence, and an argument that is no code.
 use code_words::{ExplainFault, explain, sentence, unknown_text};
 use mj_answer::Code;
 use std::alloc::{AllocError, Global};
 use std::test::Fail;
 
-/// Words, and what is told of them.
+/// Arguments, and what is said of them.
 const TOLD: &[(&[&str], &str)] = &[
     (&[], ""),
     (
@@ -23,7 +23,7 @@ E308: the index isn't an int
     ),
 ];
 
-/// The words as they are handed in.
+/// The arguments as they are handed in.
 fn words(alloc: Global, texts: &[&str]) -> Result<Vec<String>, AllocError> {
     let mut words = Vec::new(alloc);
     for text in texts {
@@ -32,7 +32,7 @@ fn words(alloc: Global, texts: &[&str]) -> Result<Vec<String>, AllocError> {
     Ok(words)
 }
 
-/// Whether this is told of these words.
+/// Whether this is said of these arguments.
 fn are_told(alloc: Global, asked: &[&str], want: &str) -> Result<bool, Fail> {
     let asked = words(alloc, asked)?;
     match explain(alloc, asked.as_slice()) {
@@ -49,7 +49,7 @@ fn tells_of_codes(rt: HostRuntime) -> Result<(), Fail> {
     Ok(())
 }
 
-/// Whether these words are refused for this one.
+/// Whether these arguments are refused for this one.
 fn are_refused(alloc: Global, asked: &[&str], want: &str) -> Result<bool, Fail> {
     let asked = words(alloc, asked)?;
     match explain(alloc, asked.as_slice()) {

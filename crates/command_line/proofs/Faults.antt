@@ -1,4 +1,4 @@
--- Lists of the kinds that an error may have: where they are empty.
+-- Lists of the kinds that an error may have: when they are empty.
 use Rattle.std.proofs.Common.{◌≡◌, Bool, true, false, [], ◌∷◌, refl, ap, true≢false}
 use Rattle.clap.specs.Kinds.{or_else}
 use Rattle.clap.specs.Words.{Kinds}
@@ -23,7 +23,7 @@ pub next_fault : (first next : Kinds) → IsFault next → IsFault (or_else firs
 next_fault [] next fault none = fault none
 next_fault (kind ∷ rest) next fault none = is_fault kind rest none
 
--- there is none where there is neither the one nor the other
+-- there is none if there is neither the one nor the other
 pub no_faults : (first next : Kinds) → or_else first next ≡ [] → (first ≡ []) × (next ≡ [])
 no_faults [] next none = (refl, none)
 no_faults (kind ∷ rest) next none = absurd (is_fault kind rest none)

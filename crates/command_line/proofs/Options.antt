@@ -1,4 +1,4 @@
--- How the walk reads one word of a command that has no option but `help` and `version`.
+-- How the walk reads one argument of a command that has no option but `help` and `version`.
 use Rattle.std.proofs.Common.{◌≡◌, ◌∙◌, ◌⊎◌, ◌==◌, inl, inr, ℕ, Bool, true, false, List, [], ◌∷◌, Option, Some, None, cond, refl, sym, ap, length}
 use Rattle.std.specs.Prelude.{drop, encode_utf8, slice_get, if◌then◌else◌, option_and_then}
 use Rattle.std.specs.Option.{option_map_or}
@@ -12,7 +12,7 @@ use Rattle.clap.specs.Words.{Kinds, Rule, Text}
 use Rattle.command_line.specs.Plain.{dashes, is_option}
 use Rattle.command_line.proofs.Faults.{IsFault, first_fault, is_fault, next_fault}
 
--- ---- what a word looks like
+-- ---- what an argument looks like
 
 pub not_long : (word : Text) → is_option word ≡ false → long_of word ≡ None
 not_long [] other = refl
@@ -78,9 +78,9 @@ short_is_fault rules again false true rest h more =
 short_is_fault rules again true is_version rest h more =
     first_fault (react_fault rules again help [] h) (more (reacted rules help [] h)) (help_is_fault rules again h)
 
--- ---- one word
+-- ---- one argument
 
--- what is held where no flag of a bundle is to be passed over
+-- what is held if no flag of a bundle is to be passed over
 abbrev pub quiet : List Row → Option (Text × List Text) → Held
 quiet rows pending = record { rows = rows; pending = pending; skip = 0 }
 
@@ -90,7 +90,7 @@ trailing_if t h position other = if t then (h, trailing position) else other
 abbrev unless : Bool → Kinds → Kinds
 unless t kinds = if t then [] else kinds
 
--- a word that names no command and isn't `--`, where no option waits for it
+-- an argument that names no command and isn't `--`, if no option waits for it
 module _ (s : Shape) (names : Names) (waiting : Waiting) (position : ℕ) (word : Text) (rows : List Row) (pending : Option (Text × List Text))
     (no_command : subcommand_met names waiting word ≡ None) (no_dashes : bytes_eq word dashes ≡ false) where
   pub flag_met : word_met s.rules names false waiting position word (quiet rows pending) ≡ long_or_other s.rules waiting word (long_of word) (quiet rows pending)
@@ -117,7 +117,7 @@ module _ (s : Shape) (names : Names) (waiting : Waiting) (position : ℕ) (word 
   plain_fault other = short_fault_is (not_long word other)
       ∙ ap (λ o. option_map_or (λ flags. bundle_fault s.rules s.args_override_self flags (quiet rows pending)) o []) (not_short word other)
 
-  -- the word is refused, or is a plain word
+  -- the argument is refused, or is a plain argument
   abbrev pub IsReadPlain : Type 0
   IsReadPlain = IsFault (word_fault s names false waiting word (quiet rows pending))
       ⊎ (word_met s.rules names false waiting position word (quiet rows pending) ≡ plain_word s.rules waiting word (quiet rows pending))
@@ -127,7 +127,7 @@ module _ (s : Shape) (names : Names) (waiting : Waiting) (position : ℕ) (word 
       (sym (ap (λ a. long_fault s.rules s.args_override_self a p.1 (quiet rows pending)) (only.long p.0).1.1)
       ∙ (sym (flag_fault ∙ ap (λ l. flag_word_fault s.rules s.args_override_self l word (quiet rows pending)) long) ∙ none)))
 
-  -- a bundle that begins with no character is a plain word
+  -- a bundle that begins with no character is a plain argument
   no_bundle : (flags : Text) → bundle s.rules flags (quiet rows pending) ≡ (quiet rows pending, plain) → long_of word ≡ None → short_of word ≡ Some flags → IsReadPlain
   no_bundle flags none long short = inr (short_met long
       ∙ (ap (λ o. short_or_plain s.rules waiting word o (quiet rows pending)) short

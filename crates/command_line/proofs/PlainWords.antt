@@ -1,4 +1,4 @@
--- Words with no option, and with FILEs that are enough, are taken.
+-- Arguments with no option, and with FILEs that are enough, are taken.
 use Rattle.std.proofs.Common.{◌≡◌, ◌∙◌, ◌≤◌, ◌<◌, ◌&&◌, ◌||◌, ◌==◌, ◌++◌, ℕ, Bool, true, false, List, [], ◌∷◌, Option, Some, None, codes, refl, sym, ap, length, arith, append-nil, append_assoc, map, nat_lt, not, subst, true≢false}
 use Rattle.std.specs.Prelude.{fold, if◌then◌else◌}
 use Rattle.std.specs.List.{list_any}
@@ -29,7 +29,7 @@ option_if t word rest = if t then false else is_option word || has_option rest
 abbrev files_if : Bool → Text → List Text → List Text
 files_if t word rest = if t then rest else word ∷ files_of rest
 
--- ---- what plain words give
+-- ---- what plain arguments give
 
 abbrev files_given : List Text → List GivenValue
 files_given files = map (λ file. (None, file)) files
@@ -152,14 +152,14 @@ module _ (command : Text) (opts : List Opt) (flag : Option Flag) where
       ap (λ k. turn_of files k (met_at files word)) (dashes_fault files word ∙ ap (λ t. fault_if t files word) is)
       ∙ ap (turn_of files []) (dashes_met files word ∙ ap (λ t. dashes_if t files word) is)
 
-  -- ---- all words
+  -- ---- all arguments
 
-  -- the words pass, and behind them these FILEs are held
+  -- the arguments pass, and behind them these FILEs are held
   record Pass (w : Walk) (words files : List Text) : Type 0 where
     passes : walk_fault s [] w words ≡ []
     ends : (fold (walked rules []) w words).held ≡ held_at files
 
-  -- behind a word that passes
+  -- behind an argument that passes
   pass_behind : (w next : Walk) (word : Text) (rest files : List Text) → turn_fault s [] w word ≡ [] → walked rules [] w word ≡ next → Pass next rest files → Pass w (word ∷ rest) files
   unfolding walk_fault
   pass_behind w next word rest files none is later = record {

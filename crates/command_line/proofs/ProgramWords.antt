@@ -1,4 +1,4 @@
--- How the words after the program's name are read.
+-- How the arguments after the program's name are read.
 use Rattle.std.proofs.Common.{◌≡◌, ◌∙◌, ◌≤◌, ◌<◌, ◌&&◌, ◌||◌, ◌==◌, ◌++◌, inl, inr, ℕ, Bool, true, false, List, [], ◌∷◌, Option, Some, None, cond, codes, refl, sym, ap, ap₂, length, arith, append-nil, append_assoc, not, option_map, is_some, string_bytes, subst, true≢false}
 use Rattle.std.proofs.lemmas.Bool.{not-true, and_parts}
 use Rattle.std.proofs.lemmas.Option.{none-some, same_Some}
@@ -83,7 +83,7 @@ walk_is_fault name words fault = first_fault (kinds_of words) (end_fault (walk_o
 abbrev found_if : Bool → Text → Option (Text × List Text) → Option (Text × List Text)
 found_if t name other = cond (t || false) (Some (name, [])) other
 
--- the subcommand was met, with the words after it
+-- the subcommand was met, with the arguments after it
 abbrev stopped_at : Text → List Text → Walk
 stopped_at command words = record start { stopped = Some (command, words) }
 
@@ -104,7 +104,7 @@ met_step m word = subcommand_or_other top.rules m idle 1 word nothing_held
 abbrev turn_of : Option Text → Text → Kinds
 turn_of m word = or_else (other_fault top m word nothing_held) (step_fault top 1 (met_step m word).0 (met_step m word).1)
 
--- the faults of a subcommand on the words after it
+-- the faults of a subcommand on the arguments after it
 abbrev level_of : Subcommand → List Text → Kinds
 level_of c rest = level (word_for c) (options c) (flag_of c) rest
 
@@ -168,9 +168,9 @@ or_none : (kinds : Kinds) → or_else kinds [] ≡ kinds
 or_none [] = refl
 or_none (kind ∷ rest) = refl
 
--- ---- any other word
+-- ---- any other argument
 
--- a word that goes to no positional is refused
+-- an argument that goes to no positional is refused
 stray : (h : Held) → IsFault (step_fault top 1 h value)
 stray h = is_fault _ _
 
@@ -257,7 +257,7 @@ no_word [] few = is_fault _ _
 no_word (name ∷ []) few = is_fault _ _
 no_word (name ∷ command ∷ rest) few = absurd (omega arith)
 
--- ---- all words
+-- ---- all arguments
 
 -- what a parse that succeeds is of
 record IsFoundIn (words : List Text) : Type 0 where
@@ -314,7 +314,7 @@ module _ {Z : Type 0} where
   name-subcommand_rows None = refl
   name-subcommand_rows (Some b) = refl
 
--- the words ask for the subcommand that was met, whose rows have what the words behind it give
+-- the arguments ask for the subcommand that was met, whose rows have what the arguments behind it give
 pub record HasRead (words : List Text) (m : ArgMatches) : Type 0 where
   pub subcommand : Subcommand
   pub asked : AsksFor words subcommand
@@ -358,7 +358,7 @@ named_as Explain = refl
 same_subcommand : (c d : Subcommand) → word_for c ≡ word_for d → c ≡ d
 same_subcommand c d same = same_Some c d (sym (named_as c) ∙ (ap named same ∙ named_as d))
 
--- ---- what was met is what the words ask for
+-- ---- what was met is what the arguments ask for
 
 names_are : (c : Subcommand) → names (options c) (flag_of c) ≡ options_of c
 names_are Scratch = refl
@@ -426,7 +426,7 @@ module _ (words : List Text) (c : Subcommand) (rows : List Row) (is : IsRead (op
   options_read (asked_words.Why w) same met = text_read (codes "of") (option_map string_bytes w.of) refl refl refl met
   options_read (asked_words.Explain asked) same met = tt
 
--- the words that were met are those that were asked for
+-- the arguments that were met are those that were asked for
 pub asked_are_met : (words : List Text) (m : ArgMatches) (w : Words) → HasRead words m → AreMet m w → Asks words w
 asked_are_met words m w is met =
     let same : is.subcommand ≡ asked_of w = same_subcommand is.subcommand (asked_of w) (same_Some _ _ (sym is.name ∙ met.name)) in
@@ -440,7 +440,7 @@ asked_are_met words m w is met =
       };
     }
 
--- ---- plain words
+-- ---- plain arguments
 
 -- the FILEs are enough, and there is no option
 record ArePlain (c : Subcommand) (rest files : List Text) : Type 0 where
@@ -462,7 +462,7 @@ plain_rest c rest files false is taken = absurd (none-some files taken)
 abbrev behind_if : Subcommand → Bool → List Text → Option (List Text)
 behind_if c t rest = option_and_then (taken_by c) (if t then Some rest else None)
 
--- the subcommand is asked for, with plain words behind it
+-- the subcommand is asked for, with plain arguments behind it
 record AsksPlainly (c : Subcommand) (words files : List Text) : Type 0 where
   asked : AsksFor words c
   plain : ArePlain c (drop 2 words) files
@@ -495,7 +495,7 @@ optional Show alone = refl
 optional Why alone = refl
 optional Explain alone = refl
 
--- words that ask plainly are taken
+-- arguments that ask plainly are taken
 taken : (c : Subcommand) (words files : List Text) → AsksPlainly c words files → length words ≤ usize_max → fault_of program_app words ≡ []
 taken c [] files plain most = absurd (none-some _ plain.asked)
 taken c (name ∷ []) files plain most = absurd (none-some _ plain.asked)
@@ -506,14 +506,14 @@ taken c (name ∷ command ∷ rest) files is most =
     ∙ (fault_is c rest name
     ∙ ap (λ k. or_else k []) (level_taken (word_for c) (options c) (flag_of c) (optional c is.plain.alone) rest is.plain.no_option is.plain.enough (omega (arith, within, most))))
 
--- a parse of words that ask plainly fails only because memory runs out
+-- a parse of arguments that ask plainly fails only because memory runs out
 pub only_memory : (app : App) (c : Subcommand) (words files : List Text) (e : Error) → app ≡ program_app → files_for c words ≡ Some files → length words ≤ usize_max
     → (is_simple_and_free app ≡ true → HasKind (fault_of app words) e) → kind_of e ≡ OutOfMemory
 only_memory app c words files e program_is plain most has =
     let none = ap (λ a. fault_of a words) program_is ∙ taken c words files (asks c words files plain) most in
     elim (subst (λ kinds. HasKind kinds e) none (has (ap is_simple_and_free program_is))) [ inl is ↦ is | inr never ↦ absurd never ]
 
--- ---- what is read of plain words
+-- ---- what is read of plain arguments
 
 none_from : {Z : Type 0} (o : Option (String Z)) → option_map string_bytes o ≡ None → o ≡ None
 none_from None none = refl
@@ -548,7 +548,7 @@ module _ (c : Subcommand) (words files : List Text) (plain : files_for c words �
   defaults (asked_words.Why w) gives = no_text (codes "of") w.of gives
   defaults (asked_words.Explain asked) gives = tt
 
-  -- what plain words ask for is just this
+  -- what plain arguments ask for is just this
   pub plain_asked : (w : Words) → Asks words w → IsPlain c files w
   plain_asked w asks = record {
     asked = same_subcommand (asked_of w) c (same_Some _ _ (sym asks.subcommand ∙ asked_plainly.asked));

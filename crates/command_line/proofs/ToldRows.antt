@@ -48,7 +48,7 @@ module _ (id other : Text) (how : Reading) (s : ValueSource) (vs : List Text) (a
   others_told [] = rw apart refl
   others_told (r ∷ rest) = others_by r rest (bytes_eq r.id id) refl (others_told rest)
 
--- where there is no row of an argument
+-- if there is no row of an argument
 pub without_none : (id : Text) (rows : List Row) → has_row id rows ≡ false → without id rows ≡ rows
 without_none id [] none = refl
 without_none id (r ∷ rest) none =

@@ -1,4 +1,4 @@
--- How the words after a subcommand are read.
+-- How the arguments after a subcommand are read.
 use Rattle.std.proofs.Common.{◌≡◌, ◌∙◌, ◌||◌, ◌&&◌, ◌⊎◌, ◌++◌, inl, inr, Bool, true, false, List, [], ◌∷◌, Option, Some, None, cond, codes, refl, sym, ap, subst, append-nil, append_assoc, nat_lt, map}
 use Rattle.std.specs.Prelude.{fold, if◌then◌else◌}
 use Rattle.std.specs.List.{list_any}
@@ -27,7 +27,7 @@ pub record Choice (opts : List Opt) (flag : Option Flag) : Type 0 where
   pub by_id : arg_by_id (rules_with opts flag) option.name ≡ Some (rule option)
   pub among : list_any (bytes_eq option.name) (names opts flag) ≡ true
 
--- ---- where the walk stands between two words
+-- ---- where the walk stands between two arguments
 
 -- nothing, these FILEs, an option without its value, or with it
 pub data Pending (opts : List Opt) (flag : Option Flag) : Type 0 where
@@ -38,7 +38,7 @@ pub data Pending (opts : List Opt) (flag : Option Flag) : Type 0 where
 
 -- ---- what is read
 
--- the rows have what the words give, with no value of an option twice unless it may be given again, and no other option is given
+-- the rows have what the arguments give, with no value of an option twice unless it may be given again; no other option is given
 pub record IsRead (opts : List Opt) (flag : Option Flag) (words : List Text) (rows : List Row) : Type 0 where
   pub values : (b : Part) → IsPart b → is_flag (id_of b) ≡ false → told (id_of b) rows ≡ values_of b (given_in None words)
   pub few : (name : Text) → IsPart (Some name) → is_repeatable name ≡ false → is_flag name ≡ false → is_few (told name rows) ≡ true
@@ -102,7 +102,7 @@ module _ (command : Text) (opts : List Opt) (flag : Option Flag) where
   after_is rows (waits o) = ap (λ a. used_by_id a [] rows) o.by_id
   after_is rows (has o v) = ap (λ a. used_by_id a (v ∷ []) rows) o.by_id
 
-  -- its faults, where they are told
+  -- its faults, if they are reported
   abbrev pub settle : List Row → Pending opts flag → Kinds
   settle rows p = settle_fault rules false (held rows p)
 
@@ -194,7 +194,7 @@ module _ (command : Text) (opts : List Opt) (flag : Option Flag) where
   file_kinds_are rows p =
       ap (λ a. option_map_or (λ r. positional_fault rules false r (held rows p)) a (stray_fault s)) (file_by_index opts flag)
 
-  -- what was pending passes, where it isn't FILEs
+  -- what was pending passes, if it isn't FILEs
   option_passes : (rows : List Row) (p : Pending opts flag) → is_pending file (pending_of p) ≡ false → file_kinds rows p ≡ [] → settle rows p ≡ []
   option_passes rows p apart none = sym (file_kinds_are rows p ∙ ap (λ t. unless t (settle rows p)) apart) ∙ none
 
@@ -228,7 +228,7 @@ module _ (command : Text) (opts : List Opt) (flag : Option Flag) where
   file_few (waits o) rows none few = absurd (no_file rows o none)
   file_few (has o v) rows none few = settle_few (has o v) rows (option_passes rows (has o v) o.option.apart none) few
 
-  -- ---- all words
+  -- ---- all arguments
 
   abbrev end : List Row → Pending opts flag → Bool → List Text → Held
   end rows p t words = (fold (walked rules []) (state rows p t) words).held
@@ -243,7 +243,7 @@ module _ (command : Text) (opts : List Opt) (flag : Option Flag) where
     few : AreFew rows → AreFew (last rows p t words)
     known : are_of (names opts flag) given ≡ true
 
-  -- the rest of the words has no fault
+  -- the rest of the arguments has no fault
   abbrev Passes : List Row → Pending opts flag → Bool → List Text → Type 0
   Passes rows p t words = (walk_fault s [] (state rows p t) words ≡ []) × (settle_fault rules false (end rows p t words) ≡ [])
 
@@ -275,7 +275,7 @@ module _ (command : Text) (opts : List Opt) (flag : Option Flag) where
   unfolding walked
   trailing_word rows p word = file_taken rows p true word
 
-  -- what is left passes behind the next word
+  -- what is left passes behind the next argument
   next_passes : (rows rows_next : List Row) (p q : Pending opts flag) (t u : Bool) (word : Text) (rest : List Text) → walked rules [] (state rows p t) word ≡ state rows_next q u
       → Passes rows p t (word ∷ rest) → Passes rows_next q u rest
   unfolding walk_fault
@@ -300,7 +300,7 @@ module _ (command : Text) (opts : List Opt) (flag : Option Flag) where
       file_read rows p true word rest (files_given rest) is (turn_passes rows p true word rest pass)
       (trailing_read rest (rows_before rows p) (with_file p word) (next_passes rows (rows_before rows p) p (with_file p word) true true word rest is pass))
 
-  -- ---- a word before the first `--`
+  -- ---- an argument before the first `--`
 
   pub no_command : (p : Pending opts flag) (word : Text) → subcommand_met [] (waiting_of p) word ≡ None
   no_command nothing word = refl
@@ -308,7 +308,7 @@ module _ (command : Text) (opts : List Opt) (flag : Option Flag) where
   no_command (waits o) word = refl
   no_command (has o v) word = refl
 
-  -- where no option waits
+  -- if no option waits
   idle_where_settled : (p : Pending opts flag) (rows : List Row) → settle rows p ≡ [] → mode_of p ≡ None
   idle_where_settled nothing rows none = refl
   idle_where_settled (some f files) rows none = refl
@@ -322,7 +322,7 @@ module _ (command : Text) (opts : List Opt) (flag : Option Flag) where
   idle_where_trailing (waits o) rows [] pass = absurd (no_value rows o pass.1)
   idle_where_trailing (waits o) rows (word ∷ rest) pass = absurd (no_file rows o (turn_passes rows (waits o) true word rest pass))
 
-  -- what is read of the other words
+  -- what is read of the other arguments
   abbrev IsReadBehind : List Text → Type 0
   IsReadBehind rest = (rows : List Row) (p : Pending opts flag) → Passes rows p false rest → IsReadTo rows p false rest (given_in (mode_of p) rest)
 
@@ -365,7 +365,7 @@ module _ (command : Text) (opts : List Opt) (flag : Option Flag) where
       other_given : mode_of p ≡ None → given_in (mode_of p) (word ∷ rest) ≡ given_by word (long_of word) (given_in None rest) (λ name. given_in (Some name) rest)
       other_given still = ap (λ m. given_in m (word ∷ rest)) still ∙ ap given_if no_dashes
 
-      -- ---- a word that is an option
+      -- ---- an argument that is an option
 
       module _ (name : Text) (v : Option Text) (a : Option Rule) (long : long_of word ≡ Some (name, v)) (named : arg_by_long rules name ≡ a) where
         long_walked : walked rules [] (state rows p false) word ≡ stepped (flagged a v)
@@ -443,7 +443,7 @@ module _ (command : Text) (opts : List Opt) (flag : Option Flag) where
     name_told settles b part given =
         ap (λ x. x ++ values_of b given) (append-nil (told (id_of b) (after rows p)) ∙ settle_told p rows settles b part)
 
-    -- what is read behind this word is what is read from it
+    -- what is read behind this argument is what is read from it
     read_from : (rows_next : List Row) (q : Pending opts flag) (u : Bool) (given : List GivenValue) → walked rules [] (state rows p false) word ≡ state rows_next q u
         → IsReadTo rows_next q u rest given → (all : List GivenValue)
         → ((b : Part) → IsPart b → (told (id_of b) rows_next ++ pend b q) ++ values_of b given ≡ (told (id_of b) rows ++ pend b p) ++ values_of b all)
@@ -537,7 +537,7 @@ module _ (command : Text) (opts : List Opt) (flag : Option Flag) where
         | inr others ↦ other_long_read name v long others
       ]
 
-  -- ---- a plain word
+  -- ---- a plain argument
 
   abbrev pub plain_of : List Row → Pending opts flag → Text → Held × Step
   plain_of rows (waits o) word = (held rows (has o word), next idle)
@@ -610,7 +610,7 @@ module _ (command : Text) (opts : List Opt) (flag : Option Flag) where
     plain_read (has o v) met no_dashes long pass = plain_file (has o v) (plain_walked (has o v) met ∙ file_taken rows (has o v) false word)
         (plain_kinds (has o v) met (turn_passes rows (has o v) false word rest pass)) refl no_dashes long pass
 
-    -- ---- any word
+    -- ---- any argument
 
     other_read : (p : Pending opts flag) (l : Option (Text × Option Text)) → long_of word ≡ l → bytes_eq word dashes ≡ false → Passes rows p false (word ∷ rest)
         → IsReadTo rows p false (word ∷ rest) (given_in (mode_of p) (word ∷ rest))
@@ -644,7 +644,7 @@ module _ (command : Text) (opts : List Opt) (flag : Option Flag) where
       let parts = no_faults (walk_fault s [] (state [] nothing false) words) (or_else (settle_fault rules false h) later) none in
       (parts.0, (no_faults (settle_fault rules false h) later parts.1).0)
 
-  -- words that are read give what is read of them
+  -- arguments that are read give what is read of them
   pub read : (words : List Text) → level words ≡ [] → IsRead opts flag words (rows_after rules [] words)
   read words none =
       let all = walk_read words [] nothing (level_passes words none) in

@@ -1,4 +1,4 @@
--- What the words behind a subcommand give, by the words alone.
+-- What the arguments behind a subcommand give, by the arguments alone.
 use Rattle.std.specs.Prelude.{◌≡◌, ℕ, Bool, true, false, List, [], ◌∷◌, Option, Some, None}
 use Rattle.std.specs.Prelude.{codes, if◌then◌else◌, map, option_map, string_bytes}
 use Rattle.std.specs.List.{list_all, list_any}
@@ -19,20 +19,20 @@ use Rattle.command_line.specs.declared.asked.Words.TheVariants as words
 abbrev pub GivenValue : Type 0
 GivenValue = Option Text × Text
 
--- `--NAME=VALUE` gives its VALUE, `--NAME` the next word, and a flag `true`
+-- `--NAME=VALUE` gives its VALUE, `--NAME` the next argument, and a flag `true`
 abbrev pub given_to : Text → Option Text → List GivenValue → (Text → List GivenValue) → List GivenValue
 given_to name (Some value) rest behind = (Some name, value) ∷ rest
 given_to name None rest behind =
     if is_flag name then (Some name, codes "true") ∷ rest else behind name
 
--- any other word is a FILE
+-- any other argument is a FILE
 abbrev pub given_by : Text → Option (Text × Option Text) → List GivenValue → (Text → List GivenValue)
     → List GivenValue
 given_by word None rest behind = (None, word) ∷ rest
 given_by word (Some p) rest behind = given_to p.0 p.1 rest behind
 
--- the values in their order, where the first word is that of the option that waits for one; behind
--- the first `--` every word is a FILE
+-- the values in their order; if an option waits for one, the first argument is its value. Behind
+-- the first `--` every argument is a FILE
 abbrev pub given_in : Option Text → List Text → List GivenValue
 given_in waiting [] = []
 given_in (Some name) (word ∷ rest) = (Some name, word) ∷ given_in None rest
@@ -63,7 +63,7 @@ are_of names given = list_all (λ one. is_one_of names one.0) given
 abbrev pub decimal_value : Text → ℕ
 decimal_value text = digits_value 10 (without_leading_plus text)
 
--- the one number that was given, and 1 where none was
+-- the one number that was given, and 1 if none was
 abbrev pub IsNumberOf : List Text → ℕ → Type 0
 IsNumberOf [] n = n ≡ 1
 IsNumberOf (text ∷ []) n = n ≡ decimal_value text
@@ -113,7 +113,7 @@ AreOptionsOf given (words.Why w) =
     IsTextOf (values_of (Some (codes "of")) given) (option_map string_bytes w.of)
 AreOptionsOf given (words.Explain asked) = Unit {0}
 
--- The values are those of the options, and the FILEs are all other words.
+-- The values are those of the options, and the FILEs are all other arguments.
 pub record IsGivenBy (given : List GivenValue) (w : Words) : Type 0 where
   pub options : AreOptionsOf given w
   pub files : values_of None given ≡ files_of_words w

@@ -25,7 +25,7 @@ values_in id rows = unwrap_or (all_of id rows) []
 abbrev pub files_in : List Row → List Text
 files_in rows = values_in (codes "FILE") rows
 
--- the number that an option has, and 1 where it has none
+-- the number that an option has, and 1 if it has none
 abbrev pub option_number : Text → List Row → ℕ
 option_number id rows = option_map_or decimal_value (first_of id rows) 1
 
@@ -66,7 +66,7 @@ AreOptionsIn rows (words.Show w) = IsShowIn rows w
 AreOptionsIn rows (words.Why w) = first_of (codes "of") rows ≡ option_map string_bytes w.of
 AreOptionsIn rows (words.Explain asked) = Unit {0}
 
--- These words can be run: they are the subcommand with these FILEs and the values of its options.
+-- These arguments can be run: they are the subcommand with these FILEs and its options' values.
 pub record AreWordsOf (subcommand : Subcommand) (files : List Text) (rows : List Row) (w : Words)
     : Type 0 where
   pub runnable : IsRunnable w
@@ -78,7 +78,7 @@ pub record AreWordsOf (subcommand : Subcommand) (files : List Text) (rows : List
 abbrev pub met_rows : ArgMatches → List Row
 met_rows m = option_map_or (λ (p : Text × List Row). p.1) (subcommand_rows_of m) []
 
--- These words are the subcommand that was met, with its FILEs and the values of its options.
+-- These arguments are the subcommand that was met, with its FILEs and the values of its options.
 pub record AreMet (m : ArgMatches) (w : Words) : Type 0 where
   pub name : subcommand_name_of m ≡ Some (word_for (subcommand_of w))
   pub files : files_in (met_rows m) ≡ files_of_words w

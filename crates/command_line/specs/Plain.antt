@@ -1,4 +1,4 @@
--- Plain words: a subcommand with its FILEs, and no option.
+-- Plain arguments: a subcommand with its FILEs, and no option.
 use Rattle.std.specs.Prelude.{◌≡◌, ◌==◌, ◌&&◌, ◌||◌, Bool, true, false, not, List, [], ◌∷◌}
 use Rattle.std.specs.Prelude.{Option, Some, None, codes, if◌then◌else◌, is_some, map, option_and_then}
 use Rattle.std.specs.Prelude.{string_bytes}
@@ -9,7 +9,7 @@ use Rattle.command_line.specs.declared.asked.Subcommand.{Subcommand}
 use Rattle.command_line.specs.declared.asked.Words.{Words}
 use Rattle.command_line.specs.declared.asked.Words.TheVariants as words
 
--- `--`, behind which every word is a FILE
+-- `--`, behind which every argument is a FILE
 abbrev pub dashes : Text
 dashes = codes "--"
 
@@ -17,23 +17,23 @@ abbrev pub has_more : Text → Bool
 has_more [] = false
 has_more (b ∷ rest) = true
 
--- the word begins with `-`, and more follows
+-- the argument begins with `-`, and more follows
 abbrev pub is_option : Text → Bool
 is_option [] = false
 is_option (b ∷ rest) = b == 45 && has_more rest
 
--- a word before the first `--` is an option
+-- an argument before the first `--` is an option
 abbrev pub has_option : List Text → Bool
 has_option [] = false
 has_option (word ∷ rest) =
     if bytes_eq word dashes then false else is_option word || has_option rest
 
--- the FILEs among the words: all but the first `--`
+-- the FILEs among the arguments: all but the first `--`
 abbrev pub files_of : List Text → List Text
 files_of [] = []
 files_of (word ∷ rest) = if bytes_eq word dashes then rest else word ∷ files_of rest
 
--- the words after the subcommand, which is the word after the program's name
+-- the arguments after the subcommand, which is the argument after the program's name
 abbrev pub words_behind : Subcommand → List Text → Option (List Text)
 words_behind subcommand [] = None
 words_behind subcommand (name ∷ []) = None
@@ -48,15 +48,15 @@ are_plain subcommand rest =
 abbrev pub taken_by : Subcommand → List Text → Option (List Text)
 taken_by subcommand rest = if are_plain subcommand rest then Some (files_of rest) else None
 
--- the FILEs that plain words give to the subcommand
+-- the FILEs that plain arguments give to the subcommand
 abbrev pub files_for : Subcommand → List Text → Option (List Text)
 files_for subcommand given = option_and_then (taken_by subcommand) (words_behind subcommand given)
 
--- the words give the subcommand FILEs that are enough for it, and no option
+-- the arguments give the subcommand FILEs that are enough for it, and no option
 abbrev pub asks_plainly : Subcommand → List Text → Bool
 asks_plainly subcommand given = is_some (files_for subcommand given)
 
--- the options are as they stand where nothing is said
+-- the options are as they stand if nothing is said
 abbrev pub HasDefaults : Words → Type 0
 HasDefaults (words.Scratch w) = (w.profile ≡ 1) × (w.messages ≡ false)
 HasDefaults (words.Check w) =

@@ -1,4 +1,4 @@
--- What the words of a command line that is read always have.
+-- What the arguments of a command line that is read always have.
 use Rattle.std.specs.Prelude.{◌<◌, ◌≤◌, ℕ, IfSome, IsTrue, List, map, string_bytes, vec_len}
 use Rattle.command_line.specs.declared.asked.CheckWords.{CheckWords}
 use Rattle.command_line.specs.declared.asked.ScratchWords.{ScratchWords}

@@ -7,7 +7,7 @@ use Rattle.command_line.specs.declared.asked.Subcommand.TheVariants.{Scratch, Ch
 abbrev pub Text : Type 0
 Text = List ℕ
 
--- the word that asks for it
+-- the argument that asks for it
 abbrev pub word_for : Subcommand → Text
 word_for Scratch = codes "scratch"
 word_for Check = codes "check"

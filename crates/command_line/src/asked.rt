@@ -24,7 +24,7 @@ pub enum Subcommand {
 }
 
 impl Subcommand {
-    /// The word that asks for it.
+    /// The argument that asks for it.
     pub fn name<'a>(self) -> &'a str
         ensures { result.now ≡ word_for self }
     {
@@ -38,7 +38,7 @@ impl Subcommand {
         }
     }
 
-    /// The subcommand that this word asks for.
+    /// The subcommand that this argument asks for.
     pub(crate) fn of_word(word: &str) -> Option<Subcommand>
         ensures found { IfSome result (λ subcommand. word_for subcommand ≡ word.now) }
         ensures known { (subcommand : Subcommand) → word.now ≡ word_for subcommand
@@ -132,13 +132,13 @@ pub enum Words {
     Explain(Vec<String>),
 }
 
-/// Why the words ask for no subcommand.
+/// Why the arguments ask for no subcommand.
 #[derive(Debug, Drop, Error)]
 pub enum WordsFault {
     /// Help was asked for, or the version. This is its text, which is for standard output.
     #[error("{0}")]
     Help(String),
-    /// The words are refused. This says why, and is for standard error.
+    /// The arguments are refused. This says why, and is for standard error.
     #[error("{0}")]
     Refused(String),
     /// Memory ran out.

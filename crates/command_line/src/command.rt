@@ -11,7 +11,7 @@ use crate::help::{PURPOSE, STATUSES, VERSION, files, outcome, purpose, value_nam
 use clap::{Arg, ArgAction, Command, value_parser};
 use std::alloc::{AllocError, Global};
 
-/// The program's name, which stands for the first word where there is none.
+/// The program's name, which stands for the first argument if there is none.
 pub(crate) const PROGRAM: &str = "mjrg";
 
 /// The positional that has the names of the files, and of `explain` the codes.

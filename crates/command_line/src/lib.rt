@@ -1,4 +1,4 @@
-//! Reads the words of a command line.
+//! Reads the arguments of a command line.
 #![tactic(auto)]
 
 mod asked;

@@ -20,9 +20,9 @@ use clap::error::ErrorKind;
 use clap::{ArgMatches, Error};
 use std::alloc::Global;
 
-/// Reads a command line, whose first word is the program's name. An empty list is read as the name
-/// alone. The options have the values that the words give them, a number that isn't given is 1, and the
-/// files or codes are all other words. `--of` without `--dot` is refused at `show`. Which other words are refused,
+/// Reads a command line, whose first argument is the program's name. An empty list is read as the name
+/// alone. The options have the values that the arguments give them, a number that isn't given is 1, and the
+/// files or codes are all other arguments. `--of` without `--dot` is refused at `show`. Which other ones are refused,
 /// and which ask for help or for the version, is `clap`'s to say.
 pub fn words(alloc: Global, list: Vec<String>) -> Result<Words, WordsFault>
     ensures runnable { IfOk result IsRunnable }
@@ -101,7 +101,7 @@ fn words_of(
     }
 }
 
-// The words of `scratch` on these files.
+// The arguments of `scratch` on these files.
 fn scratch_words(
     alloc: Global,
     given: &ArgMatches<'_>,
@@ -123,7 +123,7 @@ fn scratch_words(
     }
 }
 
-// The words of `check` on these files.
+// The arguments of `check` on these files.
 fn check_words(
     alloc: Global,
     given: &ArgMatches<'_>,
@@ -152,7 +152,7 @@ fn check_words(
     }))
 }
 
-// The words of `audit` on these files.
+// The arguments of `audit` on these files.
 fn audit_words(
     alloc: Global,
     given: &ArgMatches<'_>,
@@ -171,7 +171,7 @@ fn audit_words(
     }))
 }
 
-// The words of `show` on these files. A record is asked for only of the graph.
+// The arguments of `show` on these files. A record is asked for only of the graph.
 fn show_words(
     alloc: Global,
     given: &ArgMatches<'_>,
@@ -192,7 +192,7 @@ fn show_words(
     Ok(Words::Show(ShowWords { dot, of, files }))
 }
 
-// The words of `why` on these files.
+// The arguments of `why` on these files.
 fn why_words(alloc: Global, given: &ArgMatches<'_>, files: Vec<String>) -> Result<Words, WordsFault>
     requires { 0 < vec_len files }
     ensures words { IfOk result (AreWordsOf Subcommand.Why (map string_bytes files.items)
@@ -207,7 +207,7 @@ fn unreadable(alloc: Global) -> WordsFault {
     refused(alloc, "error: the arguments were not read\n")
 }
 
-// The words are refused with this text.
+// The arguments are refused with this text.
 fn refused(alloc: Global, why: &str) -> WordsFault {
     match String::from_str(alloc, why) {
         Ok(text) => WordsFault::Refused(text),

@@ -86,7 +86,7 @@ pub record IsDigestOver (terms : Terms) (past : Option SessionValue) (p : Projec
 abbrev pub IsDigestOf : Project → ℕ → List ℕ → Type 0
 IsDigestOf p workers digest = IsDigestOver first_terms None p workers digest
 
--- why there is no first session, or none where there is one
+-- why there is no first session, or none if there is one
 abbrev pub IsFirstFault : Project → ℕ → Option DriveFault → Type 0
 IsFirstFault p workers None =
     (s : SessionValue) × (r : Reports) × DriveGives queries first_terms None p workers (Ok (s, r))

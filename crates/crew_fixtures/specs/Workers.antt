@@ -9,7 +9,7 @@ use Rattle.table_fixtures.specs.declared.changes.Change.{Change}
 use Rattle.table_fixtures.specs.Told.{IsBehind, IsLastOf}
 use Rattle.crew_fixtures.specs.Made.{IsDigestOver, IsFirstFault}
 
--- why there is no first session of some project by so many workers, or none where there is one
+-- why there is no first session of some project by so many workers, or none if there is one
 abbrev pub IsFaultOfSome : ℕ → Option DriveFault → Type 0
 IsFaultOfSome workers fault = (p : Project) × IsFirstFault p workers fault
 

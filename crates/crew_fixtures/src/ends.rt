@@ -96,7 +96,7 @@ fn are_called<T: Threads + Wait + Sync>(
 }
 
 /// Whether the gate of a first session of this text by so many workers is called once at the beginning of each run and once
-/// at its end, also where memory is refused. There are so many runs, each of a kind of its own.
+/// at its end, also if memory is refused. There are so many runs, each of a kind of its own.
 pub fn gates_are_called_once<T: Threads + Wait + Sync>(
     rt: &T,
     alloc: Global,

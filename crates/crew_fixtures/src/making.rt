@@ -46,7 +46,7 @@ pub struct Made {
     pub events: usize,
 }
 
-/// How many events the workers have counted together. None where that is past the numbers that there are.
+/// How many events the workers have counted together. None if that is past the numbers that there are.
 fn total(events: &[usize]) -> Option<usize>
     ensures { IfSome result (λ n. n ≡ sum events.now) }
 {

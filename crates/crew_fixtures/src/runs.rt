@@ -44,8 +44,8 @@ impl Steps {
     }
 }
 
-/// Makes a session of a project over the previous one by these workers, and counts its runs. Where the number of a run, from 0, is
-/// given, this run is out of memory.
+/// Makes a session of a project over the previous one by these workers, and counts its runs. If the number of a run, from
+/// 0, is given, this run is out of memory.
 fn drive_counted<T: Threads + Wait + Sync>(
     rt: &T,
     alloc: Global,
@@ -139,8 +139,8 @@ pub fn runs_in<T: Threads + Wait + Sync>(
     Ok(runs)
 }
 
-/// Why there is no session of this file by so many workers where the run of this number, from 0, is out of memory, or
-/// `None` where there is one.
+/// Why there is no session of this file by so many workers if the run of this number, from 0, is out of memory, or
+/// `None` if there is one.
 pub fn fault_of_failing<T: Threads + Wait + Sync>(
     rt: &T,
     alloc: Global,

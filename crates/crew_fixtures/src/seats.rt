@@ -66,8 +66,8 @@ fn begins<S: Store>(store: &mut S, worker: u32, inputs: &TwoInputs, tree: &Key) 
     ask(store, worker, &inputs.before) == Reply::Done && ask(store, worker, tree) == Reply::Yours
 }
 
-/// Whether the worker is answered for the input that its seat has kept, and stops where it asks for another one or for the
-/// tree that it claimed, and where it goes on otherwise.
+/// Whether the worker is answered for the input that its seat has kept, and stops if it asks for another one or for the
+/// tree that it claimed, or goes on in another way.
 fn stops<S: Store>(store: &mut S, worker: u32, inputs: &TwoInputs, tree: &Key) -> bool {
     ask(store, worker, &inputs.before) == Reply::Done
         && ask(store, worker, &inputs.after) == Reply::Stopped

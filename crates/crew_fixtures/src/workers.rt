@@ -87,8 +87,8 @@ pub(crate) fn project_of_many(alloc: Global, count: usize) -> Result<Project, Un
     project_with(alloc, files)
 }
 
-/// Why there is no session of as many files as there are workers, where the worker of this number, from 0, is refused memory
-/// at its first run, or `None` where there is one.
+/// Why there is no session of as many files as there are workers, if the worker of this number, from 0, is refused memory
+/// at its first run, or `None` if there is one.
 pub fn fault_of_worker<T: Threads + Wait + Sync>(
     rt: &T,
     alloc: Global,
@@ -153,7 +153,7 @@ fn run<T: Threads + Wait + Sync>(
     }
 }
 
-/// Whether a session over the last one of the chain by so many workers is the one with these changes, and once more where
+/// Whether a session over the last one of the chain by so many workers is the one with these changes, and once more if
 /// memory was refused.
 pub fn run_again<T: Threads + Wait + Sync>(
     rt: &T,

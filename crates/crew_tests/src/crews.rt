@@ -86,7 +86,7 @@ const ROWS: &[Row] = &[
         first: 63,
         second: 54,
     },
-    // Where nothing is edited these two alone are executed, and 19 are green.
+    // If nothing is edited these two alone are executed, and 19 are green.
     Row {
         terms: BothTerms {
             first: FIRST_TERMS,
@@ -280,7 +280,7 @@ const FAILING: &[(usize, u64)] = &[
     (64, 9),
 ];
 
-/// Where a worker fails, all others stop, and there is no session.
+/// If a worker fails, all others stop, and there is no session.
 #[test]
 fn where_one_worker_fails_all_end(rt: HostRuntime) {
     for (workers, failing) in FAILING {
@@ -289,7 +289,7 @@ fn where_one_worker_fails_all_end(rt: HostRuntime) {
     }
 }
 
-/// Where no run fails there is a session.
+/// If no run fails there is a session.
 #[test]
 fn where_none_fails_there_is_a_session(rt: HostRuntime) {
     assert!(rt; fault_of_failing(&rt, rt.alloc(), MAIN, 1, 10) == Ok(None));

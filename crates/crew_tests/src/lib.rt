@@ -1,5 +1,5 @@
 //! Tests of sessions by several workers: that they make the same files, that their runs go on at the same time, how often each
-//! key is run, and what comes of it where a worker fails. Those of the modules named `again` pass with any one allocation refused,
+//! key is run, and what comes of it if a worker fails. Those of the modules named `again` pass with any one allocation refused,
 //! and with none, so that each may be refused in turn.
 #![tactic(auto)]
 

@@ -52,7 +52,7 @@ static CHAIN: [Change; 4] = [
     },
 ];
 
-/// Whether the session of this number is made by 1, 2, 8 and 64 workers, and again where memory was refused.
+/// Whether the session of this number is made by 1, 2, 8 and 64 workers, and again if memory was refused.
 fn is_made_again<T: Threads + Wait + Sync>(rt: &T, alloc: Global, number: usize) -> bool {
     let (Some(behind), Some(change)) = (CHAIN.get(..number), CHAIN.get(number)) else {
         return false;

@@ -1,7 +1,7 @@
 //! Workers one of whom is refused memory.
 
 use crew_fixtures::{all_stop, fault_of_worker};
-use driver::DriveFault;
+use mini_java::DriveFault;
 use std::test::*;
 
 #[test]

@@ -11,7 +11,7 @@ pub struct DeviceFault;
 
 /// What takes bytes, each call behind those that it holds.
 pub trait Sink {
-    /// The sink holds these bytes, if it tells contracts what it holds.
+    /// The sink holds these bytes, if it shows contracts what it holds.
     ghost holds: { Self → List ℕ → Type 0 };
 
     /// How often it failed, up to `u64::MAX`.
@@ -31,13 +31,13 @@ pub trait Sink {
 
 /// What gives bytes, each call behind those that it gave.
 pub trait Feed {
-    /// The feed still holds these bytes, if it tells contracts what it holds.
+    /// The feed still holds these bytes, if it shows contracts what it holds.
     ghost holds: { Self → List ℕ → Type 0 };
 
     /// How often it failed, up to `u64::MAX`.
     ghost failed: { Self → ℕ };
 
-    /// Moves bytes to the front of the room and answers how many: none only at the end, or where there is no room. A
+    /// Moves bytes to the front of the room and answers how many: none only at the end, or if there is no room. A
     /// failure moves none. What the room has behind them is left open.
     fn take(&mut self, room: &mut [u8]) -> Result<usize, DeviceFault>
         ensures taken { TakesSome (holds self.old) (holds self.new) room.old room.new result }

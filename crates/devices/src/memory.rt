@@ -4,7 +4,7 @@ ghost use Rattle.std.specs.Prelude.{◌≡◌, []};
 use crate::device::{DeviceFault, Feed, Sink};
 use std::alloc::Global;
 
-/// A sink that keeps its bytes in memory. It fails where memory runs out.
+/// A sink that keeps its bytes in memory. It fails if memory runs out.
 #[derive(Drop)]
 pub struct MemorySink {
     bytes: Vec<u8>,

@@ -4,7 +4,7 @@ ghost use Rattle.devices.specs.Devices.{CountsFailures, Puts};
 
 use crate::device::{DeviceFault, Sink};
 
-/// Appends all of the bytes; where the sink fails it has a beginning of them.
+/// Appends all of the bytes; if the sink fails it has a beginning of them.
 pub fn put_all<W: Sink>(sink: &mut W, bytes: &[u8]) -> Result<(), DeviceFault>
     ensures holds { Puts (W.holds sink.old) (W.holds sink.new) bytes.now result }
     ensures counted { CountsFailures result (W.failed sink.old) (W.failed sink.new) }
@@ -17,7 +17,7 @@ pub fn put_all<W: Sink>(sink: &mut W, bytes: &[u8]) -> Result<(), DeviceFault>
     Ok(())
 }
 
-/// Appends all of the parts, one behind the other; where the sink fails it has a beginning of them.
+/// Appends all of the parts, one behind the other; if the sink fails it has a beginning of them.
 pub fn put_parts<W: Sink>(sink: &mut W, parts: &[&[u8]]) -> Result<(), DeviceFault>
     ensures holds { Puts (W.holds sink.old) (W.holds sink.new)
         (flat_map (λ part. part.now) parts.now) result }

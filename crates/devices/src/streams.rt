@@ -4,7 +4,7 @@ ghost use Rattle.std.specs.Prelude.{◌≡◌, None};
 use crate::device::{DeviceFault, Feed, Sink};
 use std::io::{ErrorKind, Read, Write};
 
-/// A writer, as a file, as a sink. A write of no bytes where there are some is a failure.
+/// A writer, as a file, as a sink. A write of no bytes is a failure if there are some.
 #[derive(Drop)]
 pub struct WriterSink<W: Write> {
     writer: W,
@@ -26,7 +26,7 @@ impl<W: Write> WriterSink<W> {
         }
     }
 
-    /// The kind of the last failure, where there was one; `WriteZero` of a write that took no bytes.
+    /// The kind of the last failure, if there was one; `WriteZero` of a write that took no bytes.
     pub fn failure(&self) -> Option<ErrorKind>
         ensures { result ≡ self.now.failure }
     {

@@ -39,7 +39,7 @@ fn line_len(bytes: &[u8]) -> usize
     bytes.iter().take_while(|byte| **byte != b'\n').count()
 }
 
-/// The bytes of its line from a place on, of which no more than one over those that may be shown are looked at.
+/// The bytes of its line from a place on: at most one more than may be shown.
 fn from_on<'a>(place: &SourcePlace<'a>) -> &'a [u8]
     ensures { result.now ≡ take 201 (from_on place.now) }
 {

@@ -42,7 +42,7 @@ pub fn fault_text(
     Ok(text)
 }
 
-/// The lines of an answer for a project's files, which are read where it has a diagnostic.
+/// The lines of an answer for a project's files, which are read if it has a diagnostic.
 pub fn fault_text_of(
     alloc: Global,
     project: &Project,

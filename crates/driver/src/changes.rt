@@ -1,6 +1,11 @@
 //! How much has changed since the previous session.
-ghost use Rattle.std.specs.Prelude.{◌<◌, ◌≤◌, length, IfOk};
-ghost use Rattle.project_inputs.specs.Inputs.{AreNamed};
+ghost use Rattle.std.specs.Prelude.{◌≡◌, ◌<◌, ◌≤◌, length, IfOk};
+ghost use Rattle.std.specs.List.{count_by};
+ghost use Rattle.std.specs.Option.{option_copied};
+ghost use Rattle.item_ids.specs.declared.key.Key.TheVariants.{Source};
+ghost use Rattle.named_files.specs.Projects.{sources_view};
+ghost use Rattle.project_inputs.specs.Inputs.{AreNamed, has_source};
+ghost use Rattle.driver.specs.Changes.{is_changed, changed_since};
 
 use item_ids::Key;
 use named_files::Project;
@@ -19,7 +24,7 @@ pub fn changed_files(
     profile: Profile,
     project: &Project,
 ) -> Result<usize, AllocError>
-    ensures { IfOk result (λ count. count ≤ length project.now) }
+    ensures { IfOk result (λ count. count ≡ changed_since (option_copied past) profile project.now) }
 {
     let files = project.files();
     match past {
@@ -35,7 +40,7 @@ fn count_changed(
     files: &[(String, Vec<u8>)],
 ) -> Result<usize, AllocError>
     requires { AreNamed files.now }
-    ensures { IfOk result (λ count. count ≤ length files.now) }
+    ensures { IfOk result (λ count. count ≡ count_by (is_changed past.now) (sources_view files.now)) }
 {
     let mut changed = 0;
     for (name, bytes) in files {
@@ -50,6 +55,7 @@ fn count_changed(
 fn has_file(alloc: Global, past: &Session, name: &str, bytes: &[u8]) -> Result<bool, AllocError>
     requires some { 0 < length name.now }
     requires short { length name.now ≤ 255 }
+    ensures { IfOk result (λ there. there ≡ has_source past.now (Source name.now) bytes.now) }
 {
     let key = Key::Source(Name::new(alloc, name)?);
     Ok(same_source(past, &key, bytes).is_some())

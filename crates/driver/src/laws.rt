@@ -41,8 +41,8 @@ pub fn made_sessions_are_one()
         → StandsApart queries past a → (a ≡ b) × (file_of a ≡ file_of b) }
 {}
 
-/// No session is made because of its workers exactly where they aren't 1 to 64; else because of its previous session
-/// exactly where that is the last one that a chain can have; else only because memory runs out.
+/// A session is refused for its workers exactly if they aren't 1 to 64; else for its previous session exactly if that is
+/// the last one that a chain can have; else only because memory runs out.
 pub fn refusals_are_exact()
     ensures workers { (queries : Queries) (terms : Terms) (past : Option SessionValue)
         (p : Project) (workers : ℕ) (result : Result (SessionValue × Reports) DriveFault)

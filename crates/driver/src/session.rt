@@ -121,7 +121,7 @@ pub(crate) fn keeps_laws<R: Runner>()
     ensures { AreLawful R.queries }
 {}
 
-/// The previous session, where there is one, is a session.
+/// The previous session, if there is one, is a session.
 pub(crate) fn past_is_session(prev: &Option<Arc<Session>>)
     ensures { IfSome (session_in prev.now) IsSession }
 {
@@ -199,7 +199,7 @@ fn session_of<R: Runner>(
     Ok((close(table)?, Reports { events, history }))
 }
 
-/// The session of a table, when all workers have ended. It isn't closed where one of them failed: that one ran out of
+/// The session of a table, when all workers have ended. It isn't closed if one of them failed: that one ran out of
 /// memory.
 fn close<R: Runner>(table: &Table<R>) -> Result<Session, AllocError>
     ensures may_close { IfOk result (λ _. MayClose (state_of table.now)) }

@@ -7,7 +7,7 @@ use Rattle.mj_parser.specs.Locations.{token_of}
 use Rattle.file_index.specs.Reading.{tokens_or_none}
 use Rattle.fault_lines.specs.FaultLines.{token_byte, byte_among, byte_in}
 
--- where there are no tokens, no place has one
+-- if there are no tokens, no place has one
 no_byte : (found : Option ℕ) → None ≡ option_and_then (token_byte []) found
 no_byte None = refl
 no_byte (Some n) = refl

@@ -64,7 +64,7 @@ fn file_line<'a>(
     })
 }
 
-/// The line of a diagnostic of a class that isn't the first one of its name, which the place tells.
+/// The line of a diagnostic of a class that isn't the first one of its name, as its place says.
 fn repeated_line<'a>(
     alloc: Global,
     text: &FileText<'a, '_>,

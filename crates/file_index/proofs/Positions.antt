@@ -8,7 +8,7 @@ use Rattle.std.proofs.lemmas.List.{append-nil}
 use Rattle.std.proofs.lemmas.List.Elements.{filter-append}
 use Rattle.file_index.specs.Lines.{places_where}
 
--- ---- the front of a list, where the test holds up to a place and then no more
+-- ---- the front of a list, if the test holds up to a place and then no more
 
 -- what holds behind the first element, from the second on
 tail_within : (P : ℕ → Type 0) (x : ℕ) (xs : List ℕ) (low high : ℕ) → AllWithin P (x ∷ xs) (suc low) (suc high) → AllWithin P xs low high
@@ -31,7 +31,7 @@ front_is q (x ∷ xs) (suc i) in_range front back =
     let here : q x ≡ true = front 0 0 (omega arith) (omega arith) in
     rw here (ap (λ ys. x ∷ ys) (front_is q xs i (omega arith) (tail_within (λ y. q y ≡ true) x xs 0 i (λ k d from to. front k d (omega arith) to)) (tail_within (λ y. q y ≡ false) x xs i (length xs) back)))
 
--- the rest of the list, where another test holds exactly where the first doesn't
+-- the rest of the list, if another test fails up to a place and holds from it on
 pub rest_is : (r : ℕ → Bool) (xs : List ℕ) (i : ℕ) → i ≤ length xs → AllWithin (λ x. r x ≡ false) xs 0 i → AllWithin (λ x. r x ≡ true) xs i (length xs) → filter r xs ≡ drop i xs
 rest_is r [] i in_range front back = sym (drop_nothing i)
 rest_is r (x ∷ xs) zero in_range front back =

@@ -27,7 +27,7 @@ abbrev pub IsTokenStop : List Token → ℕ → Option ℕ → Type 0
 IsTokenStop ts end stop =
     (stop ≡ None) ⊎ ((number : ℕ) × (stop ≡ Some (token_start ts end number)))
 
--- The tree is the one that the grammar derives from the tokens, where there is one.
+-- The tree is the one that the grammar derives from the tokens, if there is one.
 pub record IsTreeOf (ts : List Token) (tree : Option FileTree) : Type 0 where
   pub found : (t : File) → option_map file_view tree ≡ Some t → Derives ts t
   pub only : (t : File) → Derives ts t → option_map file_view tree ≡ Some t

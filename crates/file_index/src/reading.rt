@@ -12,7 +12,7 @@ use std::alloc::{AllocError, Global};
 /// What was read of a file's bytes.
 #[derive(Drop)]
 pub struct ReadFile {
-    /// Its tokens; none where the bytes aren't cut into tokens.
+    /// Its tokens; none if the bytes aren't cut into tokens.
     pub tokens: Vec<Token>,
     /// Its tree, if the bytes are a sentence.
     pub tree: Option<FileTree>,

@@ -8,7 +8,7 @@ use Rattle.fingerprint.specs.declared.sealed.SealedFault.{SealedFault}
 use Rattle.fingerprint.specs.declared.sealed.SealedFault.TheVariants.{Refused, WrongPrint}
 use Rattle.fingerprint.specs.Prints.{print_of}
 
--- what refused the bytes is the refusal of reading them; a wrong fingerprint comes only where they
+-- what refused the bytes is the refusal of reading them; a wrong fingerprint comes only if they
 -- spell a value
 abbrev pub IsOpened : Kind → List ℕ → List ℕ → Result Value SealedFault → Type 0
 IsOpened kind bytes print (Ok v) = (decoding kind bytes ≡ Ok v) × (print ≡ print_of v)

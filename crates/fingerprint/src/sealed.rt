@@ -114,7 +114,7 @@ pub fn seal(alloc: Global, value: Value) -> Result<Sealed, AllocError>
     Ok(with_bytes(value, bytes))
 }
 
-/// The value with its bytes and fingerprint, to be shared. Where a known result has the same bytes it is that, and nothing
+/// The value with its bytes and fingerprint, to be shared. If a known result has the same bytes it is that, and nothing
 /// is hashed.
 pub fn seal_or_share(
     alloc: Global,

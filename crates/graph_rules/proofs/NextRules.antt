@@ -77,7 +77,7 @@ take_whole : (xs : List Key) → take (suc (length xs)) xs ≡ xs
 take_whole [] = refl
 take_whole (x ∷ xs) = ap (λ (zs : List Key). x ∷ zs) (take_whole xs)
 
--- Edges in order: where each next one is among the reads as soon as those before it are good, and is good where it is
+-- Edges in order: if each next one is among the reads as soon as those before it are good, and is good if it is
 -- among the reads, all are good.
 settle : (Good : Key → Type 0) (all : List Key) (Reads : Key → Type 0)
     → ((pre : List Key) (e : Key) (rest : List Key) → all ≡ pre ++ e ∷ rest → AllByRecursion Good pre → Reads e)
@@ -115,7 +115,7 @@ print_some past e x is = ap (option_map (λ r. print_of r.value)) is
 abbrev pub Means : Meaning → ReadLists → Project → State → Key → Type 0
 Means mean reads p s q = (m : Mark) × (s.at q ≡ Done (mean p q) (reads p q) m)
 
--- A value of the previous session is the one that the project gives a key that is reached, read and done with it, where
+-- A value of the previous session is the one that the project gives a key that is reached, read and done with it, if
 -- they share a fingerprint.
 abbrev pub IsApart : Meaning → ReadLists → Setting → Project → State → Type 0
 IsApart mean reads over p s =

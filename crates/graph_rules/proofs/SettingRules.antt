@@ -86,7 +86,7 @@ has_filter by_profile [] k = none (by_profile k)
 has_filter by_profile (x ∷ ks) k =
     filter_more by_profile x ks k (has_filter by_profile ks k) (by_profile x) refl (number_of x == number_of k) refl
 
--- just the kinds that go by the profile cross, where the profiles differ
+-- just the kinds that go by the profile cross, if the profiles differ
 pub crosses_is : (by_profile : Kind → Bool) (profile : Profile) (s : SessionValue) (k : Kind)
     → has_kind (crossing_kinds by_profile profile (Some s)) k ≡ (if same_profile s.terms.profile profile then false else by_profile k)
 unfolding crossing_kinds
@@ -126,7 +126,7 @@ same_test false Two Two h = let e = h.1 refl in cc
 same_test false One Two h = refl
 same_test false Two One h = refl
 
--- a kind crosses where the profiles differ and it goes by the profile
+-- a kind crosses if the profiles differ and it goes by the profile
 pub crossing_by : (by_profile : Kind → Bool) (profile : Profile) (s : SessionValue) (k : Kind) (same : Bool) → (IsTrue same ↔ (s.terms.profile ≡ profile))
     → (if same then false else by_profile k) ≡ has_kind (crossing_kinds by_profile profile (Some s)) k
 crossing_by by_profile profile s k same h =

@@ -36,7 +36,7 @@ pub record IsOfProject (mean : Meaning) (reads : ReadLists) (past : Past)
   pub sources : AreSources past p
   pub meant : AreMeant mean reads past p
 
--- the previous session, where there is one, has the values and reads that the project gives it by its own
+-- the previous session, if there is one, has the values and reads that the project gives it by its own
 -- profile
 abbrev pub ArePastMeant : Queries → Option SessionValue → Project → Type 0
 ArePastMeant queries None p = Unit {0}
@@ -92,7 +92,7 @@ pub record IsUnchanged (mean : Meaning) (reads : ReadLists) (over : Setting) (p 
   pub same : (e : Key) → Contains had.reads e
       → IsReadIn reads p e × (print_in over.held e ≡ Some (print_of (mean p e)))
 
--- An input has the mark Input; another key is green where it is unchanged, else executed.
+-- An input has the mark Input; another key is green if it is unchanged, else executed.
 abbrev pub HasMark : Meaning → ReadLists → Setting → Project → Key → Mark → Type 0
 HasMark mean reads over p q Input = rank q ≡ 0
 HasMark mean reads over p q Green = (0 < rank q) × IsUnchanged mean reads over p q

@@ -21,11 +21,11 @@ abbrev pub has_kind : List Kind → Kind → Bool
 has_kind [] k = false
 has_kind (x ∷ xs) k = if number_of x == number_of k then true else has_kind xs k
 
--- what is taken over of a key where its edges are unchanged
+-- what is taken over of a key if its edges are unchanged
 abbrev pub kept : Setting → Key → Option Entry
 kept over q = if has_kind over.crossing (kind_of q) then None else over.held q
 
--- the kinds that go by the profile, where the previous session is of another profile
+-- the kinds that go by the profile, if the previous session is of another profile
 unfoldable pub crossing_kinds : (Kind → Bool) → Profile → Option SessionValue → List Kind
 crossing_kinds by_profile profile None = []
 crossing_kinds by_profile profile (Some s) =

@@ -58,7 +58,7 @@ IsSoundAt mean reads over p s q (Done v es Executed) =
 abbrev pub IsSound : Meaning → ReadLists → Setting → Project → State → Type 0
 IsSound mean reads over p s = (q : Key) → IsSoundAt mean reads over p s q (s.at q)
 
--- a done key's value is of its kind, its mark is Input exactly where it is an input, and its edges
+-- a done key's value is of its kind, its mark is Input exactly if it is an input, and its edges
 -- are done and of lower rank, and none is there twice
 pub record IsDoneInOrder (s : State) (q : Key) (v : Value) (es : List Key) (m : Mark) : Type 0 where
   pub kind : IsOfKind q v

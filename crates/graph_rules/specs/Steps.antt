@@ -108,7 +108,7 @@ abbrev pub walk : Past → State → List Key → Walk
 walk past s [] = AllUnchanged
 walk past s (e ∷ es) = walk_on (edge_of past s e) (walk past s es)
 
--- the walk over the previous edges of a key, where it may be taken over from the previous session
+-- the walk over the previous edges of a key, if it may be taken over from the previous session
 abbrev pub past_walk : Setting → State → Key → Option Walk
 past_walk over s q = option_map (λ r. walk over.held s r.reads) (kept over q)
 

@@ -16,7 +16,7 @@ ghost use Rattle.graph_rules.specs.Histories.{IsOrderly};
 ghost use Rattle.graph_rules.specs.Graphs.{AreClosed};
 ghost use Rattle.graph_rules.specs.Next.{IsKnownPast, AreNext};
 
-/// Keys compare equal exactly where they are equal.
+/// Keys compare equal exactly if they are equal.
 pub fn keys_apart()
     ensures { (a b : Key) → (same_key a b ≡ true) ↔ (a ≡ b) }
 {}
@@ -27,14 +27,14 @@ pub fn inputs_apart()
 {}
 
 /// In each state that a legal history reaches every key is as its status says: no key was marked over a changed or
-/// open edge, none was run where it could be marked, and each executed value follows from values in the state.
+/// open edge, none was run that could be marked, and each executed value follows from values in the state.
 pub fn histories_are_sound()
     ensures { (mean : Meaning) (reads : ReadLists) (over : Setting) (p : Project)
         (h : List Event) → Legal over p h → AreBacked mean reads h
         → IsSound mean reads over p (state_after over p h) }
 {}
 
-/// In such a state a done key's value is of its kind, its mark is Input exactly where it is an input, and its edges are
+/// In such a state a done key's value is of its kind, its mark is Input exactly if it is an input, and its edges are
 /// done and of lower rank, and none is there twice.
 pub fn sound_is_in_order()
     ensures { (mean : Meaning) (reads : ReadLists) (over : Setting) (p : Project) (s : State)
@@ -52,7 +52,7 @@ pub fn histories_are_orderly()
         → IsOrderly over p h }
 {}
 
-/// Where the previous session is known, a sound state closes with the next session, whatever the events were, unless
+/// If the previous session is known, a sound state closes with the next session, whatever the events were, unless
 /// two values that differ, one of each of these sessions, share a fingerprint. It is enough to know this of what it
 /// closes with, or of the next session.
 pub fn closed_is_next()

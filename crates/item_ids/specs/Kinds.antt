@@ -65,7 +65,7 @@ has_member _ = false
 abbrev pub FitNames : Kind → Option (List ℕ) → Option (List ℕ) → Type 0
 FitNames kind class member = (is_some class ≡ has_class kind) × (is_some member ≡ has_member kind)
 
--- the bytes of a name, and none where there is no name
+-- the bytes of a name, and none if there is no name
 abbrev pub text_of : Option (List ℕ) → List ℕ
 text_of None = []
 text_of (Some name) = name

@@ -14,7 +14,7 @@ abbrev pub IsPlace : {A : Type 0} → (A → Key) → List A → Key → Option 
 IsPlace key xs k None = IsMissing key xs k
 IsPlace key xs k (Some i) = (i < length xs) × HoldsAt (λ x. key x ≡ k) xs i
 
--- each key has a place where an item has it
+-- each key has a place if an item has it
 abbrev pub ArePlaces : {A : Type 0} → (A → Key) → List A → (Key → Option ℕ) → Type 0
 ArePlaces key xs place = (k : Key) → IsPlace key xs k (place k)
 

@@ -50,7 +50,7 @@ impl Drop for Key {
 impl Key {
     ghost use Rattle.item_ids.specs.Keys.{kind_of, class_of, member_of};
 
-    /// The key of this kind with these names, where a file counts as a class. There is none where a name is missing
+    /// The key of this kind with these names; a file counts as a class. There is none if a name is missing
     /// or one too many.
     pub fn new(kind: Kind, class: Option<Name>, member: Option<Name>) -> Option<Key>
         ensures named { IsSome result ↔ FitNames kind class member }

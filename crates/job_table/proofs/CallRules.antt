@@ -38,7 +38,7 @@ walk_none over s q none = ap (option_map (λ (x : Entry). walk over.held s x.rea
 pub walk_some : (over : Setting) (s : State) (q : Key) (r : Entry) (x : Walk) → taken over q ≡ Some r → x ≡ walk over.held s r.reads → past_walk over s q ≡ Some x
 walk_some over s q r x found is = ap (option_map (λ (y : Entry). walk over.held s y.reads)) found ∙ ap Some (sym is)
 
--- ---- calls, where the table is kept so
+-- ---- calls, if the table is kept so
 
 module _ (over : Setting) (p : Project) (ns : List Node) (b : Bool) (h : List Event) (kept : StandsByHistory over p ns b h) where
   pub mark_may : (q : Key) (w : ℕ) (r : Entry) → taken over q ≡ Some r → b ≡ false → status_in ns q ≡ Claimed w → AllUnchanged ≡ walk over.held (state_of_nodes p ns false) r.reads
@@ -157,7 +157,7 @@ module _ (v t : TableValue) (te : v ≡ t) (ns : List Node) (b : Bool) (kept : S
 
   -- ---- finish
 
-  -- all reads are held in the nodes where they are in the table, and the other way round
+  -- all reads are held in the nodes if they are in the table, and the other way round
   pub held_at : (rs : List ReadValue) → AreHeld (state_of t) rs → AreHeld (state_of_nodes v.project ns false) rs
   held_at rs all = held_nodes (past_of v) v.project ns b v.history kept false rs (subst (λ (u : TableValue). AreHeld (state_of u) rs) (sym te) all)
 

@@ -80,7 +80,7 @@ done_of v (Claimed w) d = d
 done_of v (Running w) d = d
 done_of v (Done u es m) d = tt
 
--- ---- close, where the table is this
+-- ---- close, if the table is this
 
 -- the state that the nodes stand for is in order
 pub held_in_order : (mean : Meaning) (reads : ReadLists) (over : Setting) (p : Project) (ns : List Node) (b c : Bool) (h : List Event)

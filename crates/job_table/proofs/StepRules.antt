@@ -198,7 +198,7 @@ module _ (over : Setting) (p : Project) (ns : List Node) (b : Bool) (h : List Ev
       → input_of p q ≡ None → (KeysStandOnce ns → KeysStandOnce ms) → ((k : Key) → status_in ms k ≡ (if same_key q k then x else status_in ns k)) → StandsByHistory over p ms b (h ++ e ∷ [])
   kept_put ms e q x may is none apart put = kept_step over p ns ms b h e q x kept may is none (apart kept.apart) put
 
--- a state just after a key was written tells it
+-- a state just after a key was written has its status
 pub at_written : (over : Setting) (p : Project) (h : List Event) (e : Event) (q : Key) (x : Status)
     → after over (state_after over p h) e ≡ with_status (state_after over p h) q x → (state_after over p (h ++ e ∷ [])).at q ≡ x
 at_written over p h e q x is =

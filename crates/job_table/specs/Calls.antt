@@ -66,7 +66,7 @@ AskGives t w q (Err fault.OutOfMemory) u =
     ((state_of t).failed ≡ false) × (IsNotDone ((state_of t).at q) → IsStep t (Claim w q)) × (u ≡ t)
 AskGives t w q (Err _) u = ⊥
 
--- how the walk over the key's previous edges ends, where it may be taken over
+-- how the walk over the key's previous edges ends, if it may be taken over
 abbrev pub walk_in : TableValue → Key → Option Walk
 walk_in t q = past_walk (past_of t) (state_of t) q
 

@@ -23,7 +23,7 @@ pub record IsAtWork (s : State) : Type 0 where
 abbrev pub MayClose : State → Type 0
 MayClose s = (s.failed ≡ false) × AreQuiet s × IsDone (s.at Answer)
 
--- close: the session where it may be closed, else the first reason why not
+-- close: the session if it may be closed, else the first reason why not
 abbrev pub CloseGives : TableValue → Result SessionValue CloseFault → Type 0
 CloseGives t (Ok s) = MayClose (state_of t) × IsClosing t.terms t.past t.project (state_of t) s
 CloseGives t (Err close.Failed) = (state_of t).failed ≡ true

@@ -39,7 +39,7 @@ abbrev pub step_of_call : Result (Unit {0}) TableFault → Result (Unit {0}) Ste
 step_of_call (Ok v) = Ok tt
 step_of_call (Err f) = Err (refusal_of f)
 
--- an event is done exactly where it is a step, unless memory runs out
+-- an event is done exactly if it is a step, unless memory runs out
 abbrev pub StepGives : TableValue → Event → Result (Unit {0}) StepFault → TableValue → Type 0
 StepGives t e (Ok _) u = IsStep t e × (u ≡ adds t e)
 StepGives t e (Err step.NoStep) u = ¬ IsStep t e × (u ≡ t)
@@ -55,7 +55,7 @@ pub record IsFirstIllegal (over : Setting) (p : Project) (events : List Event) (
   pub legal : Legal over p front
   pub illegal : ¬ MayStep over (state_after over p front) event
 
--- events in turn, in a table that has none: all of them where they are legal, else those before the first that is
+-- events in turn, in a table that has none: all of them if they are legal, else those before the first that is
 -- no step
 abbrev pub StepsGive : TableValue → List Event → Result (Unit {0}) ReplayFault → TableValue → Type 0
 StepsGive t events (Ok _) u =
@@ -65,7 +65,7 @@ StepsGive t events (Err (replay.Illegal i)) u = IsFirstIllegal (past_of t) t.pro
 StepsGive t events (Err replay.ChainFull) u = ⊥
 StepsGive t events (Err replay.OutOfMemory) u = Unit {0}
 
--- replay: a table of just these events where they are legal, else the first that is no step
+-- replay: a table of just these events if they are legal, else the first that is no step
 abbrev pub ReplayGives : (Kind → Bool) → Terms → Option SessionValue → Project → List Event
     → Result TableValue ReplayFault → Type 0
 ReplayGives by_profile terms past p events (Ok t) =

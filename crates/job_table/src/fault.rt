@@ -4,7 +4,7 @@ use fingerprint::Sealed;
 use std::sync::Arc;
 use thiserror::Error;
 
-/// What a worker that asks for a key is told.
+/// The answer to a worker that asks for a key.
 #[derive(Drop)]
 pub enum Asked {
     /// The key is now claimed by this worker.

@@ -66,7 +66,7 @@ impl<R: Runner> Table<R> {
         Ok(())
     }
 
-    /// Makes the call of an event, where it is a step.
+    /// Makes the call of an event, if it is a step.
     fn step(&mut self, event: &Event<R>) -> Result<(), StepFault>
         ensures { StepGives self.old (event_of event.now) result self.new }
     {

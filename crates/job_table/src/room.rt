@@ -69,7 +69,7 @@ pub fn room_at_opening<R: Runner>(
     Ok((nodes, history))
 }
 
-/// Claims an unknown key for a worker and notes that, with room for one more event. Where memory runs out, neither the
+/// Claims an unknown key for a worker and notes that, with room for one more event. If memory runs out, neither the
 /// nodes nor the events change.
 pub fn claim<R: Runner>(
     alloc: Global,
@@ -97,7 +97,7 @@ pub fn claim<R: Runner>(
     Ok(())
 }
 
-/// Notes that a worker begins to run a key, with room for one more event. Where memory runs out, no event is noted.
+/// Notes that a worker begins to run a key, with room for one more event. If memory runs out, no event is noted.
 pub fn note_begin<R: Runner>(
     alloc: Global,
     history: &mut Vec<Event<R>>,

@@ -235,7 +235,7 @@ impl<R: Runner> Table<R> {
         Ok(put_mark(&mut self.nodes, &mut self.history, at, w, parts))
     }
 
-    /// Begins the run of a key that the worker has claimed, where the previous session lacks the key, a previous edge
+    /// Begins the run of a key that the worker has claimed, if the previous session lacks the key, a previous edge
     /// is changed, or the key may not be taken over since it goes by the profile.
     pub fn begin_run(&mut self, w: u32, key: &Key) -> Result<(), TableFault>
         ensures { BeginGives self.old w key.now result self.new }
@@ -263,7 +263,7 @@ impl<R: Runner> Table<R> {
         Ok(())
     }
 
-    /// Ends the run of a key with its outcome, where that is of the session's profile, and all that it read still
+    /// Ends the run of a key with its outcome, if that is of the session's profile, and all that it read still
     /// stands in the table.
     pub fn finish(&mut self, w: u32, outcome: Arc<Outcome<R>>) -> Result<(), TableFault>
         ensures { FinishGives self.old w (arc_value outcome) result self.new }
@@ -381,7 +381,7 @@ impl<R: Runner> Table<R> {
             (R.queries.reads self.now.terms.profile) self.now.history }
         ensures crossing { self.now.crossing ≡ crossing_kinds R.queries.by_profile
             self.now.terms.profile self.now.past }
-        // So every key is as its status says: none was marked over a changed or open edge, none was run where it
+        // So every key is as its status says: none was marked over a changed or open edge, none was run that
         // could be marked, and each executed value follows from values in the state.
         ensures sound { IsSound (R.queries.mean self.now.terms.profile)
             (R.queries.reads self.now.terms.profile) (past_of self.now) self.now.project

@@ -78,7 +78,7 @@ pub fn crosses<R: Runner>(past: &Session, profile: Profile, kind: Kind) -> bool
     !past.terms().profile.is(profile) && R::by_profile(kind)
 }
 
-/// How the walk over a key's previous edges ends, where it may be taken over by a session of this profile.
+/// How the walk over a key's previous edges ends, if it may be taken over by a session of this profile.
 fn walk_past<R: Runner>(
     inputs: &Inputs,
     nodes: &NodeMap,

@@ -145,7 +145,7 @@ own_or_above w r n = elim (held_or_free w (status_of n.1)) [
   | inr free ↦ inr (λ held. absurd (free held))
 ]
 
--- where not all keys that w has are above the rank, this is one of the others
+-- if not all keys that w has are above the rank, this is one of the others
 pub own_in : (ns : List Node) (w r : ℕ) → KeysStandOnce ns → (AllAbove w r ns → ⊥) → (k : Key) × IsHeldBy w (status_in ns k) × ¬ (r < rank k)
 own_in [] w r apart none = absurd (none tt)
 own_in (m ∷ ns) w r apart none = elim (own_or_above w r m) [
@@ -162,7 +162,7 @@ quiet_or_held (Claimed w) = inr (w, refl)
 quiet_or_held (Running w) = inr (w, refl)
 quiet_or_held (Done v es m) = inl tt
 
--- where not all keys are quiet, a worker has one of them
+-- if not all keys are quiet, a worker has one of them
 pub held_in : (ns : List Node) → KeysStandOnce ns → (AllQuiet ns → ⊥) → (k : Key) × (w : ℕ) × IsHeldBy w (status_in ns k)
 held_in [] apart none = absurd (none tt)
 held_in (m ∷ ns) apart none = elim (quiet_or_held (status_of m.1)) [
@@ -284,7 +284,7 @@ pub opened_more : (p : Project) (ns ms : List Node) (q : Key) (v : Value) (es : 
 opened_more p ns ms q v es some none opened put =
     opened_set p ns ms q v some (λ k. put k ∙ ap (λ (xs : List Key). if same_key q k then Done v xs Input else status_in ns k) none) opened
 
--- where a call went well
+-- if a call went well
 pub on_ok : {E : Type 0} {A B : Type 0} (r : Result (Unit {0}) E) → (A → B) → OnOk r A → OnOk r B
 on_ok (Ok x) f h = f h
 on_ok (Err e) f h = tt

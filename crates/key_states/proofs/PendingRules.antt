@@ -77,7 +77,7 @@ all_below ns (i ∷ is) h = (below ns i h.0, all_below ns is h.1)
 pub pending_inside : (ns : List Node) (places : List ℕ) → ArePending ns places → AllByRecursion (λ i. i < length ns) places
 pending_inside ns places pending = all_below ns places pending.only
 
--- where there are none, no node is claimed or running
+-- if there are none, no node is claimed or running
 quiet_unless : (s : Standing) → ((IsQuiet (status_of s) → ⊥) → ⊥) → IsQuiet (status_of s)
 quiet_unless (standing.Claimed w) h = h (λ quiet. quiet)
 quiet_unless (standing.Running w) h = h (λ quiet. quiet)

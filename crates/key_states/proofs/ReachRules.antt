@@ -92,7 +92,7 @@ adds_new found x = record {
   has = λ q h. Contains-append_right found (x ∷ []) q h;
 }
 
--- a key that is inserted, where it may have been there
+-- a key that is inserted, if it may have been there
 pub adds_inserted : (found : List Key) (x : Key) → AddsKeys found (x ∷ []) (insert_key (eq_by_cmp key_cmp) found x)
 adds_inserted found x =
     (elim (list_any (eq_by_cmp key_cmp x) found) as (λ b. list_any (eq_by_cmp key_cmp x) found ≡ b → AddsKeys found (x ∷ []) (if b then found else found ++ x ∷ [])) [

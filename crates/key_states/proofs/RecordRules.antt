@@ -150,7 +150,7 @@ keys_more ks rs i k r lt eq so_far here = map_last (λ (x : RecordValue). x.key)
 pub each_more : (s : State) (ks : List Key) (rs : List RecordValue) (r : RecordValue) → AllByRecursion (IsDoneRecord s ks) rs → IsDoneRecord s ks r → AllByRecursion (IsDoneRecord s ks) (rs ++ r ∷ [])
 each_more s ks rs r h one = all_push (IsDoneRecord s ks) rs r h one
 
--- ---- what the records tell
+-- ---- what the records say
 
 told_all : (rs xs : List RecordValue) (B : Key → Key → Type 0) (k : Key) → AllByRecursion (B k) (map (λ r. r.key) xs) → AllByRecursion (λ (e : Entry). B k e.key) (map (entry_of rs) xs)
 told_all rs [] B k h = tt

@@ -39,7 +39,7 @@ AreRoots p ks = (q : Key) → Contains ks q ↔ IsRoot p q
 abbrev pub AreReached : Project → State → List Key → Type 0
 AreReached p s ks = (q : Key) → Contains ks q ↔ IsReached p s q
 
--- where q is done, the list has all keys that were read for it
+-- if q is done, the list has all keys that were read for it
 abbrev pub HasEdges : State → List Key → Key → Type 0
 HasEdges s ks q =
     (v : Value) (es : List Key) (m : Mark) (e : Key) → s.at q ≡ Done v es m → Contains es e

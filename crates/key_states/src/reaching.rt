@@ -49,7 +49,7 @@ pub fn reach<'a>(
     Ok((keys, found))
 }
 
-/// Adds all that the keys of the inputs, and Answer, lead to, and tells how each key is done, in the set's order.
+/// Adds all that the keys of the inputs, and Answer, lead to, and says how each key is done, in the set's order.
 fn spread<'a>(
     alloc: Global,
     inputs: &'a Inputs,
@@ -114,7 +114,7 @@ fn roots(alloc: Global, inputs: &Inputs) -> Result<Vec<Key>, AllocError>
     Ok(keys)
 }
 
-/// Adds the edges that the set doesn't have yet, and tells the places of all.
+/// Adds the edges that the set doesn't have yet, and gives the places of all.
 fn add(alloc: Global, keys: &mut IndexSet<Key>, edges: &EdgeKeys) -> Result<Vec<usize>, AllocError>
     ensures adds { OnOk result (AddsKeys keys.old.keys edges.now keys.new.keys) }
     ensures same { IfOk result (λ v. map (key_in keys.new.keys) v.items ≡ edges.now) }
@@ -128,7 +128,7 @@ fn add(alloc: Global, keys: &mut IndexSet<Key>, edges: &EdgeKeys) -> Result<Vec<
     Ok(places)
 }
 
-/// Adds a key, unless the set has it already, and tells its place.
+/// Adds a key, unless the set has it already, and gives its place.
 fn add_key(alloc: Global, keys: &mut IndexSet<Key>, key: &Key) -> Result<usize, AllocError>
     ensures adds { OnOk result (AddsKeys keys.old.keys (key.now ∷ []) keys.new.keys) }
     ensures same { IfOk result (λ at. key_in keys.new.keys at ≡ key.now) }

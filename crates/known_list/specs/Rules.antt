@@ -10,6 +10,6 @@ IsKept cells log = cells ≡ (length log, true) ∷ (0, true) ∷ []
 abbrev pub head_of : Book → Named
 head_of b = record { tracked = true; key = 0; book = b }
 
--- where the length was the one that was expected, the entry was added to all that had been seen
+-- if the length was the one that was expected, the entry was added to all that had been seen
 abbrev pub Adds : {E : Type 0} → Step E → View E ℕ → ℕ → View E ℕ → Type 0
 Adds s v found w = MatchBool (found == s.old) (w.0 ≡ v.0 ++ s.ask ∷ []) (Unit {0})

@@ -108,7 +108,7 @@ impl<J: ListNaming, E> Known<J, E> {
         other.entries <= self.entries
     }
 
-    /// Adds an entry, where this is the whole list, and says whether it did. Else nothing changes.
+    /// Adds an entry, if this is the whole list, and says whether it did. Else nothing changes.
     pub fn add<X, M: Plain<X, E, u64>>(&mut self, head: &Head<J, E>, about: &X) -> bool
         requires unmade { M.state about.now ≡ None }
         ensures { MatchBool result (self.new ≡ self.old ++ M.ask about.now ∷ []) (self.new ≡ self.old) }

@@ -1,4 +1,4 @@
--- What is told of bytes, of files and of a project.
+-- What is said of bytes, of files and of a project.
 use Rattle.std.proofs.Common.{◌≡◌, ◌∙◌, inl, inr, ℕ, ◌≤◌, Bool, true, false, List, Option, Result, Ok, Err, arith, ap}
 use Rattle.std.specs.Prelude.{◌⊎◌, IfOk}
 use Rattle.named_files.specs.Projects.{SourceFile}

@@ -1,4 +1,4 @@
--- What an audit in memory tells.
+-- What an audit in memory reports.
 use Rattle.std.specs.Prelude.{◌≡◌, ◌⊎◌, ◌∷◌, ℕ, List, [], Option, Some, None}
 use Rattle.audit_graph.specs.declared.fault.AuditFault.{AuditFault}
 use Rattle.audit_replay.specs.Audits.{AreApart, HaveFiles, last_entry}
@@ -35,15 +35,15 @@ abbrev pub RefusesOver : Option (List SourceFile) → List (List ℕ) → AuditF
 RefusesOver None files fault = ChainRefuses files fault
 RefusesOver (Some project) files fault = ChainRefusesAgainst project files fault
 
--- Where no two different results that the sessions of these files record share a fingerprint, the answer
+-- If no two different results that the sessions of these files record share a fingerprint, the answer
 -- is the one that the static rules of the last one's profile give its files.
 abbrev pub IsByTheRules : List (List ℕ) → Profile → Value → Type 0
 IsByTheRules files profile v =
     (sessions : List SessionValue) (project : List SourceFile) → HaveFiles sessions files
     → AreApart sessions → AreSources (last_entry sessions) project → IsOfTheRules profile project v
 
--- The files make an accepted chain, whose texts are told. If there is a project, its files are those of
--- the last session.
+-- The files make an accepted chain, whose texts are given. If there is a project, its files are those
+-- of the last session.
 pub record TellsAccepted (files : List (List ℕ)) (project : Option (List SourceFile))
     (told : Telling) : Type 0 where
   pub profile : Profile
@@ -56,7 +56,7 @@ pub record TellsAccepted (files : List (List ℕ)) (project : Option (List Sourc
   pub tells : AreAcceptedTexts v sessions runs texts
   pub told_is : told ≡ chain_telling texts
 
--- The files make no accepted chain, and why is told.
+-- The files make no accepted chain, and the report says why.
 pub record TellsRefused (files : List (List ℕ)) (project : Option (List SourceFile))
     (told : Telling) : Type 0 where
   pub fault : AuditFault

@@ -1,4 +1,4 @@
--- What a check in memory tells.
+-- What a check in memory reports.
 use Rattle.std.specs.Prelude.{◌≡◌, ◌⊎◌, ℕ, Bool, List, [], Option}
 use Rattle.cached_check.specs.Checks.{IsMadeOver}
 use Rattle.named_files.specs.Projects.{SourceFile}
@@ -26,7 +26,7 @@ given files past profile form =
     record { files = files; past = past; profile = profile; form = form }
 
 -- The file of a session that is made of these files over the past, and the texts of just that session.
--- Where it stands apart from the past it is the next session, with the answer of the static rules.
+-- If it stands apart from the past it is the next session, with the answer of the static rules.
 pub record TellsSession (terms : Terms) (messages : Bool) (files : List SourceFile)
     (past : Option SessionValue) (told : SessionTelling) : Type 0 where
   pub made : SessionValue

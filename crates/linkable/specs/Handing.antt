@@ -17,7 +17,7 @@ abbrev pub AreUntouched : List ℕ → List ℕ → List ℕ → List ℕ → Ty
 AreUntouched out_old out_new err_old err_new = (out_new ≡ out_old) × (err_new ≡ err_old)
 
 -- Each text stands in its buffer, and the call ends with its status. If a buffer is too small neither
--- does, and the call ends with 5. Either way the caller is told how long the texts are.
+-- does, and the call ends with 5. Either way the caller learns how long the texts are.
 pub record IsHandedOver (telling : Telling) (outcome : Outcome)
     (out_old out_new err_old err_new : List ℕ) : Type 0 where
   pub out_length : outcome.out_length ≡ length telling.answer
@@ -29,7 +29,7 @@ pub record IsHandedOver (telling : Telling) (outcome : Outcome)
   pub untouched : (HaveRoom telling out_old err_old → ⊥)
       → AreUntouched out_old out_new err_old err_new
 
--- What is told like this is handed over.
+-- What is reported like this is handed over.
 pub record Writes (Tells : Telling → Type 0) (outcome : Outcome)
     (out_old out_new err_old err_new : List ℕ) : Type 0 where
   pub telling : Telling
@@ -68,7 +68,7 @@ all_written telling old = record {
 }
 
 -- The file and the texts stand in their buffers, and the call ends with its status. If a buffer is too
--- small none does, and the call ends with 5. Either way the caller is told how long they are.
+-- small none does, and the call ends with 5. Either way the caller learns how long they are.
 pub record IsSessionHandedOver (telling : SessionTelling) (outcome : SessionOutcome)
     (old new : Buffers) : Type 0 where
   pub session_length : outcome.session_length ≡ length telling.session
@@ -79,7 +79,7 @@ pub record IsSessionHandedOver (telling : SessionTelling) (outcome : SessionOutc
   pub too_small : (HaveRoomFor telling old → ⊥) → outcome.status ≡ 5
   pub untouched : (HaveRoomFor telling old → ⊥) → new ≡ old
 
--- What is told like this is handed over.
+-- What is reported like this is handed over.
 pub record WritesSession (Tells : SessionTelling → Type 0) (outcome : SessionOutcome)
     (old new : Buffers) : Type 0 where
   pub telling : SessionTelling

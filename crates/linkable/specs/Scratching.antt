@@ -1,4 +1,4 @@
--- What is told of files in memory that are checked from scratch.
+-- What is reported of files in memory that are checked from scratch.
 use Rattle.std.specs.Prelude.{◌≡◌, ◌⊎◌, ℕ, Bool, List}
 use Rattle.diagnostic_lines.specs.Lines.{IsFaultText, is_clean}
 use Rattle.reports.specs.Refusals.{refusal_words}

@@ -1,4 +1,4 @@
--- What a call tells its caller.
+-- What a call reports to its caller.
 use Rattle.std.specs.Prelude.{ℕ, Bool, true, false, List, [], string_bytes}
 use Rattle.reports.specs.declared.auditing.AuditTexts.{AuditTexts}
 use Rattle.reports.specs.declared.texts.AnswerTexts.{AnswerTexts}

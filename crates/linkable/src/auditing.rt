@@ -16,7 +16,7 @@ use named_files::Project;
 use reports::{accepted_texts, chain_refusal};
 use std::alloc::{AllocError, Global};
 
-/// What is told of the chain of the files that these bytes are, over the sources if there are any.
+/// What is reported of the chain of the files that these bytes are, over the sources if there are any.
 #[tactic(auto, using(crate::proofs::Tells::of_chain, crate::proofs::Tells::no_sources, crate::proofs::Tells::no_chain))]
 pub(crate) fn audit(alloc: Global, chain: &[u8], sources: &[u8]) -> Result<Told, AllocError>
     ensures { IfOk result (λ told. TellsAudit chain.now sources.now (told_of told)) }
@@ -47,7 +47,7 @@ fn sources_in(alloc: Global, bytes: &[u8]) -> Result<Option<Project>, Stop>
     }
 }
 
-// What is told of the chain of these files, over the project if there is one.
+// What is reported of the chain of these files, over the project if there is one.
 fn audit_files(
     alloc: Global,
     files: &[&[u8]],

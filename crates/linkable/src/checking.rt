@@ -20,7 +20,7 @@ use sessions::{Session, Terms};
 use std::alloc::{AllocError, Global};
 use std::sync::Arc;
 
-/// What is told of the files that these bytes are, checked over the past.
+/// What is reported of the files that these bytes are, checked over the past.
 pub(crate) fn check(
     alloc: Global,
     files: &[u8],

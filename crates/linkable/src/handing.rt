@@ -75,7 +75,7 @@ impl SessionOutcome {
         }
     }
 
-    // What is told ends with this status.
+    // What is reported ends with this status.
     fn of(told: &ToldSession, status: u32) -> SessionOutcome
         ensures status { result.status ≡ status }
         ensures session_length { result.session_length ≡ length (session_told_of told.now).session }

@@ -12,7 +12,7 @@ use profiles::Profile;
 use reports::scratch_texts;
 use std::alloc::{AllocError, Global};
 
-/// What is told of the files that these bytes are.
+/// What is reported of the files that these bytes are.
 #[tactic(auto, using(crate::proofs::Tells::by_profile, crate::proofs::Tells::by_none))]
 pub(crate) fn scratch(
     alloc: Global,
@@ -29,7 +29,7 @@ pub(crate) fn scratch(
     }
 }
 
-// What is told of the files that these bytes are, by the rules of this profile.
+// What is reported of the files that these bytes are, by the rules of this profile.
 #[tactic(auto, using(crate::proofs::Tells::of_project, crate::proofs::Tells::of_none))]
 fn scratch_by(
     alloc: Global,
@@ -46,7 +46,7 @@ fn scratch_by(
     }
 }
 
-// What is told of a project.
+// What is reported of a project.
 fn scratch_project(
     alloc: Global,
     project: &Project,

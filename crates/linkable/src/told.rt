@@ -1,4 +1,4 @@
-//! What a call tells its caller.
+//! What a call reports to its caller.
 ghost use Rattle.std.specs.Prelude.{◌≡◌, string_bytes};
 ghost use Rattle.linkable.specs.Telling.{answer_status, answer_telling, chain_refusal, chain_telling, ending_status, no_session, refusal, session_told_of, told_of};
 

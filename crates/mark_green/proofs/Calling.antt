@@ -116,7 +116,7 @@ ask_others w q t u a = busy_at t w q ((state_of t).at q) refl a.0.1 a.1 a.2
 pub ask_busy : (w : ℕ) (q : Key) (t u : TableValue) → AskGives t w q (Ok asked.Busy) u → EnsureGives t w q (Err fault.Busy) u
 ask_busy w q t u a = subst (λ (x : TableValue). EnsureGives t w q (Err fault.Busy) x) (sym a.3) (on_none t, stays_same t t refl, a.0.0, ask_others w q t u a)
 
--- where a call changed nothing
+-- if a call changed nothing
 stopped_at : (t u v : TableValue) → u ≡ t → WorkerGivesUp u v → Stops t v
 stopped_at t u v e s = subst (λ (x : TableValue). Stops x v) e s.stops
 
@@ -170,7 +170,7 @@ mark_refused w q table.NothingChanged g is t u v st all m s = absurd m
 mark_refused w q (table.StaleRead i) g is t u v st all m s = absurd m
 mark_refused w q table.OtherProfile g is t u v st all m s = absurd m
 
--- ---- mark, where a key may have to wait for its edges, or to run
+-- ---- mark, if a key may have to wait for its edges, or to run
 
 pub try_done : (w : ℕ) (q : Key) (v : Arc Value Global) (past : Option SessionValue) (t u : TableValue) → MarkGives t w q (Ok v) u → past ≡ t.past → HasStatus (Claimed w) w q t → WorkGives t w q (Ok v) u
 try_done w q v past t u m has st = mark_done w q v t u m

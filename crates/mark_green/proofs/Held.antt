@@ -17,7 +17,7 @@ use Rattle.mark_green.proofs.GoingOn.{held_on}
 use Rattle.mark_green.proofs.Running.{claimed_stands}
 use Rattle.mark_green.proofs.Turning.{Fetches}
 
--- all of this is so in the table, where it is known
+-- all of this is so in the table, if it is known
 abbrev pub Held : List ReadValue → Option TableValue → Type 0
 Held told a = Knows (λ t. AreHeld (state_of t) told) a
 

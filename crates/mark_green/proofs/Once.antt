@@ -23,7 +23,7 @@ use Rattle.mark_green.specs.Moves.{IsDoneIn, HaltsAtRead, Moves, IsUnanswered, I
 use Rattle.mark_green.proofs.GoingOn.{knows_map}
 use Rattle.mark_green.proofs.Running.{run_same, run_halts, run_memory, told_knows}
 
--- each read is done in the table and was told by the store, or is held
+-- each read is done in the table and was given by the store, or is held
 abbrev pub AreAnswered : List ReadValue → Option TableValue → (Key → Value → Type 0) → List ReadValue → Type 0
 AreAnswered held a told reads = AllByRecursion (λ t. (Knows (IsDoneIn t.key t.value) a × told t.key t.value) ⊎ Contains held (record { key = t.key; value = t.value })) reads
 

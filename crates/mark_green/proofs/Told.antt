@@ -1,4 +1,4 @@
--- What a store has told, in runs and in the evaluations that they need.
+-- What a store has given, in runs and in the evaluations that they need.
 use Rattle.std.proofs.Common.{◌≡◌, ◌∙◌, List, [], ◌∷◌, ◌++◌, sym, subst, inl, inr}
 use Rattle.std.specs.Prelude.{Result, Ok, Err, Option, None, IfOk}
 use Rattle.std.proofs.lemmas.List.Elements.{All-contains, All-from_recursion}
@@ -30,7 +30,7 @@ one_told : (told : Key → Value → Type 0) (l : List ReadValue) (k : Key) (v :
 one_told told [] k v all h = (h, tt)
 one_told told (r ∷ rs) k v all h = (all.0, one_told told rs k v all.1 h)
 
--- one result more that was told is held
+-- one result more that was given is held
 pub told_more : (told : Key → Value → Type 0) (old new : List ReadValue) (k : Key) (v : Value) → new ≡ old ++ record { key = k; value = v } ∷ [] → AreTold told old → told k v → AreTold told new
 told_more told old new k v is all h = subst (λ (l : List ReadValue). AreTold told l) (sym is) (one_told told old k v all h)
 
@@ -44,7 +44,7 @@ told_result told shown o q v is key value h =
 
 -- ---- a run
 
--- what was read is told, where what is held is
+-- what was read was given, if what is held was
 told_reads : (held : List ReadValue) (a : Option TableValue) (told : Key → Value → Type 0) → AreTold told held → (reads : List ReadValue) → AreAnswered held a told reads → AreTold told reads
 told_reads held a told all [] h = tt
 told_reads held a told all (r ∷ rs) h = (

@@ -69,7 +69,7 @@ TryGives t w q (Ok tried.ByEdges) u = (u ≡ t) × (has_kind t.crossing (kind_of
 TryGives t w q (Ok tried.Runs) u = (u ≡ t) × (walk_in t q ≡ None)
 TryGives t w q (Err f) u = WorkGives t w q (Err f) u
 
--- the result by which a key was marked is told
+-- the result by which a key was marked is given
 abbrev pub TellsTried : (Key → Value → Type 0) → Key → Tried → Type 0
 TellsTried told q (tried.Marked v) = told q (arc_value v)
 TellsTried told q _ = Unit {0}
@@ -123,7 +123,7 @@ abbrev pub RunGives : TableValue → ℕ → Result OutcomeValue Fault → Table
 RunGives t w (Ok o) u = LeavesClaims t u × AreHeld (state_of u) o.told
 RunGives t w (Err f) u = IsGivenUp t w f u × Stays t u
 
--- where a table is out of memory so is the work; any other refusal of it ends the work
+-- if a table is out of memory so is the work; any other refusal of it ends the work
 abbrev pub IsWorkFault : TableFault → Fault → Type 0
 IsWorkFault table.OutOfMemory f = f ≡ fault.OutOfMemory
 IsWorkFault _ f = f ≡ fault.Stopped
@@ -136,7 +136,7 @@ IsFaultOfStop (stop.Refused x) f = IsWorkFault x f
 IsFaultOfStop (stop.Lacks k) f = f ≡ fault.OutOfMemory
 IsFaultOfStop stop.OutOfMemory f = f ≡ fault.OutOfMemory
 
--- nothing is called where another worker has a key, or a worker failed before
+-- nothing is called if another worker has a key, or a worker failed before
 abbrev pub StopsFor : RunStop → TableValue → TableValue → Type 0
 StopsFor stop.Busy t u = u ≡ t
 StopsFor stop.Stopped t u = u ≡ t

@@ -12,12 +12,12 @@ use Rattle.job_table.specs.declared.fault.Asked.{Asked}
 use Rattle.job_table.specs.declared.fault.Asked.TheVariants as asked
 use Rattle.job_table.specs.declared.fault.TableFault.{TableFault}
 
--- what is known of a table, where anything is known of it
+-- what is known of a table, if anything is known of it
 abbrev pub Knows : (TableValue → Type 0) → Option TableValue → Type 0
 Knows P None = Unit {0}
 Knows P (Some t) = P t
 
--- what is known of a table before and after, where anything is known of it
+-- what is known of a table before and after, if anything is known of it
 abbrev pub KnowsChange : (TableValue → TableValue → Type 0) → Option TableValue → Option TableValue
     → Type 0
 KnowsChange P None None = Unit {0}
@@ -29,16 +29,16 @@ KnowsChange P (Some t) (Some u) = P t u
 abbrev pub ClaimsNoInput : Key → Result Asked TableFault → Type 0
 ClaimsNoInput q r = r ≡ Ok asked.Yours → 0 < rank q
 
--- what a store has told of a key stays told
+-- what a store has given for a key stays given
 abbrev pub StaysTold : (Key → Value → Type 0) → (Key → Value → Type 0) → Type 0
 StaysTold old new = (q : Key) (v : Value) → old q v → new q v
 
--- the result of a key that was found done is told
+-- the result of a key that was found done is given
 abbrev pub TellsDone : (Key → Value → Type 0) → Key → Result Asked TableFault → Type 0
 TellsDone told q (Ok (asked.Done a)) = told q (arc_value a)
 TellsDone told q _ = Unit {0}
 
--- each result that was read was told
+-- each result that was read was given
 abbrev pub AreTold : (Key → Value → Type 0) → List ReadValue → Type 0
 AreTold told reads = AllByRecursion (λ r. told r.key r.value) reads
 

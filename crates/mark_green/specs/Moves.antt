@@ -25,7 +25,7 @@ use Rattle.mark_green.specs.Leaves.{Knows, KnowsChange, GoesOn, Stays}
 abbrev pub IsDoneIn : Key → Value → TableValue → Type 0
 IsDoneIn q v t = IsDoneWith v ((state_of t).at q)
 
--- why a run had no answer, where r is the rank of its key
+-- why a run had no answer; r is the rank of its key
 abbrev pub StopGives : TableValue → ℕ → ℕ → RunStop → TableValue → Type 0
 StopGives t w r (stop.Lacks k) u = AskGives t w k (Ok asked.Yours) u
 StopGives t w r stop.Busy u = (k : Key) × AskGives t w k (Ok asked.Busy) u
@@ -39,7 +39,7 @@ abbrev pub IsUnder : ℕ → RunStop → Type 0
 IsUnder r (stop.Lacks k) = (rank k < r) × (0 < rank k)
 IsUnder r _ = Unit {0}
 
--- The refusal of a read, by what stopped the run: a key isn't held only where a worker has it.
+-- The refusal of a read, by what stopped the run: it is `NotHeld` only if a worker has the key.
 abbrev pub IsFaultOfRead : RunStop → ReadFault → Type 0
 IsFaultOfRead (stop.Lacks k) f = f ≡ read.NotHeld
 IsFaultOfRead stop.Busy f = f ≡ read.NotHeld
@@ -48,7 +48,7 @@ IsFaultOfRead (stop.Refused table.OutOfMemory) f = f ≡ read.OutOfMemory
 IsFaultOfRead (stop.Refused x) f = f ≡ read.Stopped
 IsFaultOfRead stop.OutOfMemory f = f ≡ read.OutOfMemory
 
--- Why a read of q isn't answered in a run of rank r: what stopped the run. Where nothing did, memory
+-- Why a read of q isn't answered in a run of rank r: what stopped the run. If nothing did, memory
 -- ran out, or q is a key that no query of that rank reads.
 abbrev pub IsUnanswered : ℕ → Option RunStop → Key → ReadFault → Type 0
 IsUnanswered r (Some x) q f = IsFaultOfRead x f
@@ -134,7 +134,7 @@ moves_on w r x y z a b c (inr f) (inl g) =
     )
 moves_on w r x y z a b c (inr f) (inr g) = absurd (none_no_match y _ g.0 f.1)
 
--- the same, where the second moves are those of an equal worker and rank
+-- the same, if the second moves are those of an equal worker and rank
 pub moves_from : (w r v s : ℕ) (x y z : Option RunStop) (a b c : Option TableValue) → v ≡ w → s ≡ r
     → Moves w r x y a b → Moves v s y z b c → Moves w r x z a c
 moves_from w r v s x y z a b c v_is s_is f g =

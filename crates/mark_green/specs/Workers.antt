@@ -6,7 +6,7 @@ use Rattle.job_table.specs.Tables.{TableValue}
 use Rattle.mark_green.specs.declared.worker.Worker.{Worker}
 use Rattle.mark_green.specs.Leaves.{KnowsChange, StaysTold}
 
--- it is the same worker at the same store, and what the store has told it stays told
+-- it is the same worker at the same store, and what the store has given it stays given
 pub record IsSameWorker {S R O : Type 0} (told : S → Key → Value → Type 0)
     (old new : Worker S R O) : Type 0 where
   pub store : new.store.ghost_name ≡ old.store.ghost_name

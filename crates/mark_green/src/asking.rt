@@ -109,7 +109,7 @@ fn stop_for(noted: &mut Option<RunStop>, stop: RunStop) -> ReadFault
     fault
 }
 
-/// The refusal of a read, by what stopped the run: a key isn't held only where a worker has it.
+/// The refusal of a read, by what stopped the run: it is `NotHeld` only if a worker has the key.
 fn fault_of_read(stop: &RunStop) -> ReadFault
     ensures { IsFaultOfRead stop.now result }
 {
@@ -144,7 +144,7 @@ fn answer_of<S: Store>(
     }
 }
 
-/// The result, where it is of the key's kind.
+/// The result, if it is of the key's kind.
 fn of_kind(key: &Key, sealed: Arc<Sealed>) -> Result<Arc<Sealed>, RunStop>
     ensures same { IfOk result (λ a. a ≡ sealed) }
     ensures kind { IfOk result (λ a. IsOfKind key.now (arc_value a)) }

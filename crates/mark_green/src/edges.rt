@@ -11,7 +11,7 @@ use item_ids::Key;
 use sessions::{Finder, Record, Session, edges_are_below};
 use std::sync::Arc;
 
-/// The edges that a key has in the previous session, as indices of records, or `None` where that has no such key.
+/// The edges that a key has in the previous session, as indices of records, or `None` if that has no such key.
 pub(crate) fn past_edges<'a>(
     past: &'a Session,
     finder: &mut Finder,

@@ -1,4 +1,4 @@
-//! Evaluating keys: try-mark-green, and a run where an edge is red.
+//! Evaluating keys: try-mark-green, and a run if an edge is red.
 ghost use Rattle.std.specs.Prelude.{◌≡◌, ◌<◌, false, [], Some, IfOk, IfSome, length, map};
 ghost use Rattle.std.specs.List.{AllByRecursion};
 ghost use Rattle.std.specs.Arc.{arc_value};
@@ -86,8 +86,8 @@ impl<S: Store<Out = Arc<Outcome<R>>>, R: Runner> Worker<'_, S, R> {
         }
     }
 
-    /// Evaluates a key that the worker has claimed, over this previous session. Where all previous edges are done and
-    /// unchanged the key is marked at once, and where nothing may be taken over it is run at once; no edge is asked for
+    /// Evaluates a key that the worker has claimed, over this previous session. If all previous edges are done and
+    /// unchanged the key is marked at once, and if nothing may be taken over it is run at once; no edge is asked for
     /// then.
     #[cycle(ensure)]
     fn work_over(&mut self, key: &Key, past: &Option<Arc<Session>>) -> Result<Arc<Sealed>, Fault>
@@ -107,7 +107,7 @@ impl<S: Store<Out = Arc<Outcome<R>>>, R: Runner> Worker<'_, S, R> {
         }
     }
 
-    /// Evaluates a key that the worker has claimed, over this previous session, by its previous edges, where it may be
+    /// Evaluates a key that the worker has claimed, over this previous session, by its previous edges, if it may be
     /// taken over.
     #[cycle(ensure)]
     fn work_by_edges(
@@ -235,7 +235,7 @@ impl<S: Store<Out = Arc<Outcome<R>>>, R: Runner> Worker<'_, S, R> {
         Err(self.give_up(TableFault::OutOfMemory))
     }
 
-    /// Runs a key once. Where the run lacked a result, evaluates its key and holds the result.
+    /// Runs a key once. If the run lacked a result, evaluates its key and holds the result.
     #[cycle(ensure)]
     fn turn(&mut self, key: &Key, held: &mut AnswerList) -> Result<Option<Outcome<R>>, Fault>
         requires shows { ShowsOutcomes S.outcome_in }

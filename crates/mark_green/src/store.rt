@@ -16,8 +16,8 @@ use sessions::{Session, Terms};
 use std::alloc::AllocError;
 use std::sync::Arc;
 
-/// The calls that a worker makes at a table, its own or a shared one. Where nothing is known of the table of a store,
-/// contracts say nothing of what its calls do, but for the results that it told the worker: those stay so.
+/// The calls that a worker makes at a table, its own or a shared one. If nothing is known of the table of a store,
+/// contracts say nothing of what its calls do, but for the results that it gave the worker: those stay so.
 pub trait Store {
     /// The outcome of a run.
     type Out;
@@ -25,10 +25,10 @@ pub trait Store {
     ghost use Rattle.recorder.specs.Runs.{OutcomeValue};
     ghost use Rattle.job_table.specs.Tables.{TableValue};
 
-    /// The table, where anything is known of it.
+    /// The table, if anything is known of it.
     ghost table: { Self → Option TableValue };
 
-    /// The results that it told the worker: a key that is done with a value stays done with it.
+    /// The results that it gave the worker: a key that is done with a value stays done with it.
     ghost told: { Self → Key → Value → Type 0 };
 
     /// What a run gave.
@@ -55,7 +55,7 @@ pub trait Store {
             (table self.new) }
         ensures stays { StaysTold (told self.old) (told self.new) };
 
-    /// Ends the run of a key with its outcome. All that was read was told by the store, so that it still stands in the
+    /// Ends the run of a key with its outcome. All that was read was given by the store, so that it still stands in the
     /// table.
     fn finish(&mut self, w: u32, outcome: Self::Out) -> Result<(), TableFault>
         requires held { Knows (λ t. AreHeld (state_of t) (outcome_in outcome).told)

@@ -4,7 +4,7 @@ use Rattle.mj_tree.specs.Trees.{Name}
 use Rattle.named_files.specs.Repeats.{is_in, repeats_behind, repeats}
 use Rattle.member_queries.specs.FirstNames.{without_repeats, first_names}
 
--- a name, where it is new
+-- a name, if it is new
 abbrev pub new_name : Bool → Name → List Name
 new_name is_new n = if is_new then n ∷ [] else []
 

@@ -1,5 +1,5 @@
--- A program where each query has its value: the keys that it asks, one after the other, and its
--- result.
+-- What a program comes to if each query has its value: the keys that it asks, one after the other,
+-- and its result.
 use Rattle.std.proofs.Common.{◌≡◌, List, [], ◌∷◌, ◌++◌, map, refl, sym, ap, ap₂, ◌∙◌, if◌then◌else◌}
 use Rattle.std.specs.Prelude.{flat_map}
 use Rattle.std.specs.List.{AllByRecursion}

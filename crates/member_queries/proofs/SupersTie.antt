@@ -37,7 +37,7 @@ module _ (profile : Profile) (p : Project) where
   unfolding mean
   superclass_told c k s e f = rw e f
 
-  -- a link, where the class extends this
+  -- a link, if the class extends this
   one_link : (more : ℕ) (names : List Name) (c : Name) (k : ChainValue → Prog) (ks : List Key) (q : Prog) (s : Option Name)
       → option_and_then (λ (h : HeaderValue). h.superclass) (header_in (mean profile p (keys.Header c))) ≡ s
       → Passes (mean profile p) (climb_on (chain_steps more (index_of p)) (names ++ c ∷ [], climb_by (index_of p) (names ++ c ∷ []) s) k) ks q

@@ -19,6 +19,6 @@ member_names_view ms = map member_name_view ms
 abbrev pub name_rows : List (Bor Name × MemberName) → List (Name × (Name × Name))
 name_rows es = rows_by member_name_view es
 
--- the types of a method were added, where there are any
+-- the types of a method were added, if there are any
 abbrev pub AddsTypes : Name × Name → List MethodRowValue → List MethodRowValue → Type 0
 AddsTypes found old new = (s : Option SignatureValue) × (new ≡ with_types found old s)

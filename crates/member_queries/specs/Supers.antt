@@ -1,4 +1,4 @@
--- The chain of a class: the index, then, where it has the class, the header of each class of the
+-- The chain of a class: the index, then, if it has the class, the header of each class of the
 -- chain.
 use Rattle.std.specs.Prelude.{ℕ, zero, suc, Bool, List, [], ◌∷◌, ◌++◌, length, Option, Some, None, option_and_then, if◌then◌else◌}
 use Rattle.std.specs.List.{list_any}

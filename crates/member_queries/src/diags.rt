@@ -16,7 +16,7 @@ use result_bytes::{Header, Value};
 use std::alloc::{AllocError, Global};
 use std::collections::BTreeSet;
 
-/// Adds a name, where it is new.
+/// Adds a name, if it is new.
 fn keep_new(
     alloc: Global,
     names: &mut Vec<Name>,
@@ -144,7 +144,7 @@ fn declared_faults<D: Reader>(
     Ok(class_fault_set(faults))
 }
 
-/// All diagnostics of a class, where it is declared.
+/// All diagnostics of a class, if it is declared.
 #[tactic(auto, using(crate::proofs::Places::no_faults))]
 fn faults_by<D: Reader>(
     alloc: Global,

@@ -170,7 +170,7 @@ fn ask_chain<D: Reader>(
     Ok(ascent.chain(ChainEnd::Top))
 }
 
-/// The chain of a class, where the index has the class.
+/// The chain of a class, if the index has the class.
 fn chain_among<D: Reader>(
     alloc: Global,
     recorder: &mut Recorder<D>,

@@ -1,4 +1,4 @@
-//! What std and the map of the table keep where they are refused memory.
+//! What std and the map of the table keep if they are refused memory.
 
 use indexmap::IndexMap;
 use std::alloc::Global;
@@ -14,7 +14,7 @@ fn counts(list: &[u64], many: u64) -> bool {
     counts && list.len() as u64 == many
 }
 
-/// Whether the next number is pushed, and again where that is refused, which has to leave the list as it was.
+/// Whether the next number is pushed, and again if that is refused, which has to leave the list as it was.
 fn is_pushed(list: &mut Vec<u64>, next: u64) -> bool {
     if list.push(next).is_err() && !(counts(list, next) && list.push(next).is_ok()) {
         return false;
@@ -36,7 +36,7 @@ fn counts_up(map: &IndexMap<u64, u64>, many: u64) -> bool {
     counts && map.len() as u64 == many
 }
 
-/// Whether the next number is put into the map, and again where that is refused, which has to leave the map as it was.
+/// Whether the next number is put into the map, and again if that is refused, which has to leave the map as it was.
 fn is_put(map: &mut IndexMap<u64, u64>, next: u64) -> bool {
     let number = next.saturating_mul(100);
     if map.insert(next, number).is_err()
@@ -55,7 +55,7 @@ fn maps_are_as_they_were(rt: HostRuntime) {
     }
 }
 
-/// Whether the number is shared, and again where that is refused, which has to give it back.
+/// Whether the number is shared, and again if that is refused, which has to give it back.
 fn is_shared(alloc: Global, number: u64) -> bool {
     match Arc::new(alloc, number) {
         Ok(shared) => *shared == number,

@@ -15,7 +15,7 @@ fn auditors_refuse_a_file_whose_feed_fails(rt: HostRuntime) {
     assert!(rt; fails_at_each_call(rt.alloc(), in_form_2(), 5000) == Ok(true));
 }
 
-/// Whether an audit finds so many sessions and runs so many records, where each feed gives one byte in a call, and where it
+/// Whether an audit finds so many sessions and runs so many records, if each feed gives one byte in a call, and if it
 /// gives more.
 fn is_said(alloc: Global, chain: &[Change], sessions: usize, runs: u128) -> bool {
     for piece in [1, 7, 5000] {
@@ -33,7 +33,7 @@ fn feeds_give_a_few_bytes_in_a_call(rt: HostRuntime) {
     assert!(rt; is_said(rt.alloc(), mixed(), 5, 12));
 }
 
-/// Whether the file at this place of the chain is refused where one byte follows it.
+/// Whether the file at this place of the chain is refused if one byte follows it.
 fn is_longer_refused(alloc: Global, chain: &[Change], at: usize) -> bool {
     let fault = AuditFault::File(at, FileFault::Trailing);
     fault_of_longer(alloc, chain, at) == Ok(Some(fault))

@@ -1,4 +1,4 @@
-//! The calls of tables, each made again where it is refused memory.
+//! The calls of tables, each made again if it is refused memory.
 
 use crate::chains::{FIRST_TERMS, ONE, executed, green, one_session};
 use answer_fixtures::KeyParts;
@@ -75,7 +75,7 @@ static FAILED: [Saying; 7] = [
     },
 ];
 
-/// Whether each call of a table behind the chain says what it should, in a second try where what the test makes was refused
+/// Whether each call of a table behind the chain says what it should, in a second try if what the test makes was refused
 /// memory.
 fn are_answered(alloc: Global, chain: &'static [Change], sayings: &'static [Saying]) -> bool {
     let calls = Calls {
@@ -95,7 +95,7 @@ fn calls_are_made_again(rt: HostRuntime) {
     assert!(rt; are_answered(alloc, &[], &FAILED));
 }
 
-/// Whether the session behind the chain is made by so many events, in a second try where what the test makes was refused
+/// Whether the session behind the chain is made by so many events, in a second try if what the test makes was refused
 /// memory.
 fn is_made(alloc: Global, chain: &'static [Change], change: Change, events: usize) -> bool {
     let history = History {

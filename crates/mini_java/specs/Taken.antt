@@ -18,7 +18,7 @@ abbrev pub HasRefused : AuditFault → ChainAuditor → Type 0
 HasRefused fault a = a.auditor.state ≡ Err fault
 
 -- The file was taken behind those taken before, and its session stands behind theirs. It is all that
--- the feed held, where that is told.
+-- the feed held, if that is known.
 pub record TakesFile (old new : ChainAuditor) (held left : List ℕ → Type 0) (file : List ℕ)
     : Type 0 where
   pub session : SessionValue

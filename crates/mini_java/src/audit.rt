@@ -18,7 +18,7 @@ use named_files::Project;
 use providers::{MiniJava, answer_of};
 use std::alloc::Global;
 
-/// Audits the files of a chain of sessions of MiniJava projects. Where no two different results that they record share
+/// Audits the files of a chain of sessions of MiniJava projects. If no two different results that they record share
 /// a fingerprint, the answer of an accepted chain is what the static rules of the last session's profile give its files.
 pub fn audit_chain(alloc: Global, chain: &[&[u8]]) -> Result<Audited, AuditFault>
     // What was checked.
@@ -29,7 +29,7 @@ pub fn audit_chain(alloc: Global, chain: &[&[u8]]) -> Result<Audited, AuditFault
     ensures profile { IfOk result (λ a. (sessions : List SessionValue)
         → HaveFiles sessions (map (λ f. f.now) chain.now)
         → IsLastProfile sessions a.profile) }
-    // and where no two different results in them share a fingerprint, each is right over the one before,
+    // and if no two different results in them share a fingerprint, each is right over the one before,
     ensures right { IfOk result (λ _. (sessions : List SessionValue)
         → HaveFiles sessions (map (λ f. f.now) chain.now) → AreApart sessions
         → AreRight queries None sessions) }
@@ -46,7 +46,7 @@ pub fn audit_chain(alloc: Global, chain: &[&[u8]]) -> Result<Audited, AuditFault
     audit(alloc, &mut runner, chain)
 }
 
-/// Audits a chain as `audit_chain` does, and tells whether the last session's files are those of the project.
+/// Audits a chain as `audit_chain` does, and says whether the last session's files are those of the project.
 pub fn audit_chain_against(
     alloc: Global,
     chain: &[&[u8]],
@@ -56,7 +56,7 @@ pub fn audit_chain_against(
     ensures accepted { IfOk result (λ a.
         IsAcceptedAgainst project.now (map (λ f. f.now) chain.now) a.profile (arc_value a.answer)
         a.sessions a.runs) }
-    // Where no two different results in the files share a fingerprint, the answer is what the static rules of the
+    // If no two different results in the files share a fingerprint, the answer is what the static rules of the
     // profile give the project.
     ensures headline { IfOk result (λ a. (sessions : List SessionValue)
         → HaveFiles sessions (map (λ f. f.now) chain.now) → AreApart sessions

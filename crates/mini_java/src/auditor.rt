@@ -45,7 +45,7 @@ impl ChainAuditor {
         // A file was taken, whole.
         ensures taken { OnOk result ((file : List ℕ)
             × TakesFile self.old self.new (F.holds feed.old) (F.holds feed.new) file) }
-        // Why it is refused after the files taken before, by the bytes that the feed held, if it tells them.
+        // Why it is refused after the files taken before, by the bytes that the feed held, if it says which.
         ensures refused { IfErr result (λ fault. (files : List (List ℕ)) (bytes : List ℕ)
             → HasTaken files self.old → F.holds feed.old bytes
             → RefusesBehind files bytes fault) }
@@ -54,7 +54,7 @@ impl ChainAuditor {
         ensures again { (fault : Fault) → HasRefused fault self.old
             → (result ≡ Err fault) × (feed.new ≡ feed.old)
             × (self.new.runner ≡ self.old.runner) }
-        // A failure of the device is answered exactly where it was counted.
+        // A failure of the device is answered exactly if it was counted.
         ensures counted { (files : List (List ℕ)) → HasTaken files self.old
             → CountsTake result (F.failed feed.old) (F.failed feed.new) }
     {
@@ -79,7 +79,7 @@ impl ChainAuditor {
         ensures profile { IfOk result (λ a. (files : List (List ℕ))
             (sessions : List SessionValue) → HasTaken files self → HaveFiles sessions files
             → IsLastProfile sessions a.profile) }
-        // and where no two different results in them share a fingerprint, each is right over the one before,
+        // and if no two different results in them share a fingerprint, each is right over the one before,
         ensures right { IfOk result (λ _. (files : List (List ℕ)) (sessions : List SessionValue)
             → HasTaken files self → HaveFiles sessions files → AreApart sessions
             → AreRight queries None sessions) }
@@ -103,7 +103,7 @@ impl ChainAuditor {
         // What was checked.
         ensures accepted { IfOk result (λ a. (files : List (List ℕ)) → HasTaken files self
             → IsAcceptedAgainst project.now files a.profile (arc_value a.answer) a.sessions a.runs) }
-        // Where no two different results in the files share a fingerprint, the answer is what the static rules of the
+        // If no two different results in the files share a fingerprint, the answer is what the static rules of the
         // profile give the project.
         ensures headline { IfOk result (λ a. (files : List (List ℕ)) (sessions : List SessionValue)
             → HasTaken files self → HaveFiles sessions files → AreApart sessions

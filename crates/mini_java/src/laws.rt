@@ -12,7 +12,7 @@ ghost use Rattle.mini_java.specs.Headline.{IsAcceptedChain, IsOfTheRules};
 
 use mj_rules::answer_laws;
 
-/// Where files of sessions are accepted, and no two different results that they record share a fingerprint, the answer
+/// If files of sessions are accepted, and no two different results that they record share a fingerprint, the answer
 /// is the one that the static rules of the last session's profile give its sources, whoever wrote the sessions.
 pub fn accepted_are_the_rules()
     ensures { (files : List (List ℕ)) (old new : List Key) (profile : Profile)
@@ -25,7 +25,7 @@ pub fn accepted_are_the_rules()
     answer_laws();
 }
 
-/// What was checked of an accepted chain is what an audit of any runner accepts, so that, where no two different
+/// What was checked of an accepted chain is what an audit of any runner accepts, so that, if no two different
 /// results that its sessions record share a fingerprint, the answer is the one that the static rules of the last
 /// session's profile give its sources.
 pub fn accepted_chains_are_the_rules()

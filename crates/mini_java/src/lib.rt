@@ -12,7 +12,7 @@ mod session;
 pub use audit::{audit_chain, audit_chain_against, audited_answer};
 pub use audit_replay::Audited;
 pub use auditor::ChainAuditor;
-pub use driver::{Crew, DriveFault, Gate, Open, Reports, Shared, drive};
+pub use driver::{Crew, DriveFault, Gate, Open, Reports, Shared, changed_files, drive};
 pub use laws::{accepted_are_the_rules, accepted_chains_are_the_rules};
 pub use lists::ClassJobs;
 pub use providers::MiniJava;

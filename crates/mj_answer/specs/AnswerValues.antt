@@ -1,4 +1,4 @@
--- Answers without where they lie in memory.
+-- Answers, apart from where they lie in memory.
 use Rattle.std.specs.Prelude.{ℕ, List}
 use Rattle.mj_tree.specs.declared.tree.Ty.{Ty}
 use Rattle.mj_answer.specs.declared.diagnostic.Diagnostic.{Diagnostic}

@@ -48,7 +48,7 @@ impl Named for ClassAnswer {
     }
 }
 
-/// The index of the item with this name, or `None` where none has it.
+/// The index of the item with this name, or `None` if none has it.
 pub fn position_by_name<T: Named>(items: &[T], name: &Name) -> Option<usize>
     requires { IsAscendingByName T.name_of items.now }
     ensures { result ≡ position (λ item. bytes_eq (T.name_of item) name.now) items.now }
@@ -56,7 +56,7 @@ pub fn position_by_name<T: Named>(items: &[T], name: &Name) -> Option<usize>
     items.binary_search_by(|item| item.name().cmp(name)).ok()
 }
 
-/// The item with this name, or `None` where none has it.
+/// The item with this name, or `None` if none has it.
 pub fn find_by_name<'a, T: Named>(items: &'a [T], name: &Name) -> Option<&'a T>
     requires { IsAscendingByName T.name_of items.now }
     ensures { option_copied result ≡ find (λ item. bytes_eq (T.name_of item) name.now) items.now }

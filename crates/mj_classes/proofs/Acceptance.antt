@@ -1,4 +1,4 @@
--- What is accepted by what is an order where chains end.
+-- Acceptance is an order if chains end.
 use Rattle.std.proofs.Common.{◌≡◌, ◌≢◌, List, [], ◌∷◌, refl, sym, ap, ◌∙◌, subst, inl, inr}
 use Rattle.std.specs.Prelude.{Contains}
 use Rattle.mj_tree.specs.Trees.{Name}
@@ -43,7 +43,7 @@ links_alike cs chain other [] end on l = absurd l
 links_alike cs chain other (c ∷ []) end on l = ends_alike cs chain other c end on l
 links_alike cs chain other (c ∷ d ∷ rest) end on l = (l.0, links_alike cs chain other (d ∷ rest) end on l.1)
 
--- where a chain doesn't come back, the rest of it from a class on is the chain of that class
+-- if a chain doesn't come back, the rest of it from a class on is the chain of that class
 record RestFrom (cs : List ClassDecl) (xs : List Name) (u : Name) (end : EndOf) : Type 0 where
   names : List Name
   is_chain : IsChain cs u names end

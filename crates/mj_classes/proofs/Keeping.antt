@@ -82,7 +82,7 @@ module _ (cs : List ClassDecl) (at : ℕ) (stop : Option ℕ) (classes : List Cl
       let same : w.number ≡ w.goal = omega arith in
       w.kept ∙ ap (declaring cs w.chain) same
 
-  -- where the nearest class is the one to stop at
+  -- if the nearest class is the one to stop at
   pub stretch_stops : (o : Option ℕ) → IsNearestAt cs at o → o ≡ stop → classes ≡ declaring cs w.chain w.goal
   stretch_stops o near same = elim w.here [ inl s ↦ by_next s (next_is cs w.c w.chain w.entry w.turns w.number at o s near) | inr s ↦ behind s.0 ]
     where

@@ -17,14 +17,14 @@ pub place_none : (cs : List ClassDecl) (c : Name) → place cs c ≡ None → de
 unfolding decl
 place_none cs c e = find_from_position (λ k. bytes_eq k.name c) cs None e
 
--- a class of which the index tells
+-- a class that the index has
 pub place_class : (cs : List ClassDecl) (c : Name) (i : ℕ) → place cs c ≡ Some i → (k : ClassDecl) × (slice_get cs i ≡ Some k) × (decl cs c ≡ Some k)
 unfolding decl
 place_class cs c i e =
     let k = at_some cs i (position_below (λ k. bytes_eq k.name c) cs i e) in
     (k.0, k.1, find_from_position (λ k. bytes_eq k.name c) cs (Some i) e ∙ k.1)
 
--- what is told of each of the code's elements
+-- what is said of each of the code's elements
 mapped : {X Y Z : Type 0} (f : X → Y) (g : Y → Z) (xs : List X) → map (λ x. g (f x)) xs ≡ map g (map f xs)
 mapped f g [] = refl
 mapped f g (x ∷ xs) = ap (λ zs. g (f x) ∷ zs) (mapped f g xs)

@@ -83,7 +83,7 @@ module _ (cs : List ClassDecl) (c : Name) (chain : List Name) (entry : ℕ) (t :
   not_none : (at next : ℕ) → slice_get (superclass_places cs) at ≡ Some (Some next) → slice_get (superclass_places cs) at ≡ Some None → ⊥
   not_none at next e f = none-some next (same_Some None (Some next) (sym f ∙ e))
 
-  -- where no class stands above the last, its number is that of the turn
+  -- if no class stands above the last, its number is that of the turn
   top_is : (n at : ℕ) → StandsAt cs chain n at → suc n ≡ length chain → (to : ℕ) → StandsAt cs chain entry to → slice_get (superclass_places cs) to ≡ Some None → at ≡ to
   top_is n at s last to turn none =
       let k = class_of cs chain entry to turn in

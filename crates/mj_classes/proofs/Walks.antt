@@ -41,7 +41,7 @@ met cs p whole c (d ∷ rest) end k j (suc n) l e lt f =
     cond_on (p k) k j (along cs p (d ∷ rest)) (option_and_then (up cs p n) (above cs k)) (rw e at f)
     (λ g. rw (super, found) (met cs p whole d rest end next.0 j n l.1 next.1 (omega arith) g))
 
--- a class of these fails where none is found
+-- a class of these fails if none is found
 fails_first : (p : ClassDecl → Bool) (m : ClassDecl) (f : Option ClassDecl) → cond (p m) (Some m) f ≡ None → (p m ≡ false) × (f ≡ None)
 fails_first p m f e = by (p m) refl e
   where
@@ -145,7 +145,7 @@ none_round : (cs : List ClassDecl) (p : ClassDecl → Bool) (s : ℕ) (k : Class
 none_round cs p s k back zero = refl
 none_round cs p s k back (suc r) = back (rounds s r) ∙ none_round cs p s k back r
 
--- where some steps lead from a class back to it, nothing is found
+-- if some steps lead from a class back to it, nothing is found
 pub round_trip : (cs : List ClassDecl) (p : ClassDecl → Bool) (s : ℕ) (k : ClassDecl) → 0 < s → ((m : ℕ) → up cs p (s + m) k ≡ up cs p m k) → (m : ℕ) → up cs p m k ≡ None
 round_trip cs p s k h back m = by (up cs p m k) refl
   where

@@ -10,7 +10,7 @@ use Rattle.mj_classes.specs.Chains.{EndOf, Repeated, IsChain, IsAcceptedBy, chai
 use Rattle.mj_classes.specs.Members.{FieldOf, MethodOf, field_of, method_of}
 use Rattle.mj_classes.specs.Tables.{IsTable, field_table, method_table}
 
--- A class has a chain exactly where it is declared, and then one chain with one end, which
+-- A class has a chain exactly if it is declared, and then one chain with one end, which
 -- `chain_of` gives.
 pub record ChainLaws : Type 0 where
   pub given : (cs : List ClassDecl) (c : Name) (chain : List Name) (end : EndOf)

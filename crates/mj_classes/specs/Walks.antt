@@ -64,7 +64,7 @@ StepsUp cs steps = AreStepsUp (superclass_places cs) steps
 
 -- ---- where walks turn
 
--- A walk up the chain of the class c turns at the class of this number: the last one, where no class
+-- A walk up the chain of the class c turns at the class of this number: the last one, if no class
 -- stands above it, or the one that is entered again.
 pub record Turns (cs : List ClassDecl) (c : Name) (chain : List Name) (number : ℕ) : Type 0 where
   pub end : EndOf

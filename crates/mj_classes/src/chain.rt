@@ -34,7 +34,7 @@ pub struct ClassChain<'a> {
 impl<'a> Declarations<'a> {
     ghost use Rattle.mj_classes.specs.Index.{declared_in};
 
-    /// The chain of a class, or `None` where the class isn't declared.
+    /// The chain of a class, or `None` if the class isn't declared.
     pub fn chain(&self, alloc: Global, name: &Name) -> Result<Option<ClassChain<'a>>, AllocError>
         ensures end { IfOk result (λ o.
             option_map (λ c. end_view c.end) o
@@ -51,7 +51,7 @@ impl<'a> Declarations<'a> {
         }
     }
 
-    /// How the chain of a class ends, or `None` where the class isn't declared.
+    /// How the chain of a class ends, or `None` if the class isn't declared.
     pub fn chain_end(&self, name: &Name) -> Option<End<'a>>
         ensures { option_map end_view result
             ≡ option_map (λ chain. chain.1) (chain_of (declared_in self.now) name.now) }
@@ -88,7 +88,7 @@ impl<'a> Declarations<'a> {
         }
     }
 
-    /// Adds the classes of the chain of the one at the first place that declare members, where its walk turns at the
+    /// Adds the classes that declare members, of the chain of the one at the first place, whose walk turns at the
     /// second: those in front of the first such class behind the turn, that class, and those behind it.
     fn keep_chain(
         &self,

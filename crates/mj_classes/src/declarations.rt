@@ -219,7 +219,7 @@ fn link(
     Ok(places)
 }
 
-/// For each place the one above it, or itself where there is none.
+/// For each place the one above it, or itself if there is none.
 fn steps_up(alloc: Global, superclasses: &[Option<usize>]) -> Result<Vec<usize>, AllocError>
     ensures { IfOk result (λ steps. AreStepsUp superclasses.now steps.items) }
 {

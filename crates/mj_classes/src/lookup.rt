@@ -9,7 +9,7 @@ impl<'a> Declarations<'a> {
     ghost use Rattle.mj_classes.specs.Index.{declared_in};
 
     /// Whether the second class stands in the chain of the first. The walk up remembers one class that it has passed and
-    /// replaces it by the current one each time the number of steps doubles; where it meets that class again it has
+    /// replaces it by the current one each time the number of steps doubles; if it meets that class again it has
     /// seen the whole chain.
     pub fn descends(&self, class: &Name, ancestor: &Name) -> bool
         ensures { result

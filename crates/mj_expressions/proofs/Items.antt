@@ -86,12 +86,12 @@ list_closes ts front j e = rw e refl
 pub list_open : {A : Type 0} (ts : List Token) (front : List A) (j : ℕ) → has ts j terminals.RightParenthesis ≡ false → closed_list ts (Some (front, j)) ≡ None
 list_open ts front j e = rw e refl
 
--- the list's end, where a function looks for the parenthesis
+-- the list's end, found by a function that looks for the parenthesis
 pub list_ends : {X B A : Type 0} (r : Result X ParseFault) (items : X → B) (after : X → ℕ) (front : B) (view : B → List A) (More : X → Type 0) (ts : List Token) (j : ℕ) → IfOk r (λ x. (has ts j terminals.RightParenthesis ≡ true) × (items x ≡ front) × (after x ≡ j + 1) × More x) → IfErr r (λ e. (e ≡ NotAFile j) × (has ts j terminals.RightParenthesis ≡ false)) → Finds (λ x. (view (items x), after x)) r (closed_list ts (Some (view front, j)))
 list_ends (Ok x) items after front view More ts j f g = rw (f.1, f.2) (list_closes ts (view front) j f.0)
 list_ends (Err e) items after front view More ts j f g = rw g.0 (list_open ts (view front) j g.1)
 
--- where a part isn't found, the whole isn't
+-- if a part isn't found, the whole isn't
 pub fails_on : {A B : Type 0} (e : ParseFault) (x : Option A) (y : Option B) → (x ≡ None → y ≡ None) → FailsToParse e x → FailsToParse e y
 fails_on OutOfMemory x y f h = tt
 fails_on (NotAFile k) x y f h = f h

@@ -81,7 +81,7 @@ stands_law ts i t = (has_is ts i t, stands ts i t)
 pub stands_within : (ts : List Token) (i : ℕ) (t : Terminal) → Stands ts i t → i < length ts
 stands_within ts i t s = has_within ts i t (has_is ts i t s)
 
--- a step that found something where this stands, or where it doesn't
+-- a step that found something if this stands, or if it doesn't
 pub when_stands : {A : Type 0} (ts : List Token) (i : ℕ) (t : Terminal) (o : Option A) (y : A) → when (has ts i t) o ≡ Some y → Stands ts i t × (o ≡ Some y)
 when_stands ts i t o y e = let w = when_some (has ts i t) o y e in (stands ts i t w.0, w.1)
 

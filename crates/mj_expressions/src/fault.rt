@@ -7,7 +7,7 @@ use thiserror::Error;
 /// Why tokens are no file.
 #[derive(Clone, Copy, Debug, PartialEq, Eq, Error)]
 pub enum ParseFault {
-    /// The least number k such that no file begins with tokens 0 to k; the number of tokens where a file begins with
+    /// The least number k such that no file begins with tokens 0 to k; the number of tokens if a file begins with
     /// all of them.
     #[error("no file begins with the tokens up to token {0}")]
     NotAFile(usize),

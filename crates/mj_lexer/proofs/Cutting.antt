@@ -20,7 +20,7 @@ pub after_word : (at n : ℕ) (kind : TokenKind) (text : List ℕ) (before token
     → Cuts (at + n) (drop (at + n) text) tokens till rest → Cuts 0 all ((before ++ record { kind = kind; start = at; end = at + n } ∷ []) ++ tokens) till rest
 after_word at n kind text before tokens till rest all e so_far c = rw append_assoc (so_far (record { kind = kind; start = at; end = at + n } ∷ tokens) till rest (word kind n (stands_there (drop at text) (Word kind n) e) (rw drop-drop c)))
 
--- where nothing is left
+-- if nothing is left
 pub all_cut : (at : ℕ) (text : List ℕ) (tokens : List Token) → length text ≤ 1048576 → length (drop at text) ≡ 0
     → ((ts : List Token) (till : ℕ) (rest : List ℕ) → Cuts at (drop at text) ts till rest → Cuts 0 text (tokens ++ ts) till rest) → Lexes text tokens
 all_cut at text tokens short e so_far =

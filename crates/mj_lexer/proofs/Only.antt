@@ -138,7 +138,7 @@ one_reading text f g (at_byte some c none e) (at_byte others d other i) = e ∙ 
 pub one_front : (text : List ℕ) (f g : Front) → StandsInFront text f → StandsInFront text g → f ≡ g
 one_front text f g a b = one_reading text f g (reading text f a) (reading text g b)
 
--- so it stands there exactly where it is read
+-- so it stands there exactly if it is read
 pub stands_there : (text : List ℕ) (front : Front) → front_of text ≡ front → StandsInFront text front
 stands_there text front e = subst (StandsInFront text) e (front_stands text)
 

@@ -17,7 +17,7 @@ abbrev pub put_first : Token → Lexing → Lexing
 put_first token (Ok tokens) = Ok (token ∷ tokens)
 put_first token (Err fault) = Err fault
 
--- what a place gives where this stands there and `behind n` is given n bytes further on
+-- what a place gives if this stands there and `behind n` is given n bytes further on
 abbrev pub lexing_at : ℕ → Front → (ℕ → Lexing) → Lexing
 lexing_at at Nothing behind = Ok []
 lexing_at at (Blank n) behind = behind n

@@ -69,7 +69,7 @@ fn is_line_byte(b: u8) -> bool
     b != b'\n' && b != b'\r'
 }
 
-/// The length in bytes of the name at the front of the text, 0 where there is none.
+/// The length in bytes of the name at the front of the text, 0 if there is none.
 fn name_len(text: &[u8]) -> usize
     ensures value { result ≡ prefix_len is_name_byte text.now }
     ensures within { result ≤ length text.now }
@@ -107,7 +107,7 @@ fn closes(a: u8, b: u8) -> bool
     a == b'*' && b == b'/'
 }
 
-/// The number of bytes up to the end of the comment that is open at the front, or `None` where it isn't closed.
+/// The number of bytes up to the end of the comment that is open at the front, or `None` if it isn't closed.
 fn comment_len(text: &[u8]) -> Option<usize>
     ensures { MatchOption result (after_comment 1 text.now ≡ None)
         (λ n. (n ≤ length text.now) × (after_comment 1 text.now ≡ Some (drop n text.now))) }

@@ -15,7 +15,7 @@ fn is_inside_line(b: u8) -> bool
     !is_line_feed(b)
 }
 
-/// The length of the last line of the text, which is empty where the text ends with a line feed.
+/// The length of the last line of the text, which is empty if the text ends with a line feed.
 fn last_line_len(text: &[u8]) -> usize
     ensures value { result ≡ suffix_len is_inside_line text.now }
     ensures within { result ≤ length text.now }

@@ -22,7 +22,7 @@ under n es = entries.find by_bytes n es
 pub under_first : {A : Type 0} (n : Name) (es : List (Name × A)) → under n (names.entries (names.from_entries {R = by_bytes} es)) ≡ under n es
 under_first n es = sym (names.get-entries (names.from_entries {R = by_bytes} es) n) ∙ names.get-from_entries nat_list_cmp_total es n
 
--- entries that ascend are the first of each name, where the same stands under each name
+-- entries that ascend are the first of each name, if the same stands under each name
 pub firsts_are : {A : Type 0} (es fs : List (Name × A)) → T (entries.is_sorted by_bytes es) → ((n : Name) → under n es ≡ under n fs) → values_of es ≡ firsts fs
 firsts_are es fs up same =
     ap values_of (entries.same_entries by_bytes nat_list_cmp_total exact_bytes es (names.entries (names.from_entries {R = by_bytes} fs)) up (names.entries_sorted (names.from_entries {R = by_bytes} fs)) (λ n. same n ∙ sym (under_first n fs)))

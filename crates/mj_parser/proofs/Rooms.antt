@@ -1,4 +1,4 @@
--- Where the levels don't suffice, no statement is read.
+-- If the levels don't suffice, no statement is read.
 use Rattle.std.proofs.Common.{◌≡◌, ◌≢◌, ℕ, zero, suc, ◌+◌, Bool, true, false, List, Option, Some, None, refl, arith}
 use Rattle.std.specs.Prelude.{if◌then◌else◌}
 use Rattle.mj_lexer.specs.declared.token.Token.{Token}
@@ -12,7 +12,7 @@ use Rattle.mj_expressions.specs.Steps.{◌>>=◌, when, PartParser, FailsToParse
 use Rattle.mj_expressions.specs.ExpressionReading.{exp_at}
 use Rattle.mj_parser.specs.StatementReading.{condition_at, if_at, while_at, print_at, assign_at, store_at, named_at, stmt_of, stmt_at}
 
--- a refusal that isn't about memory, where nothing is found
+-- a refusal that isn't about memory, if nothing is found
 pub fails : {A : Type 0} (e : ParseFault) (x : Option A) → e ≢ OutOfMemory → x ≡ None → FailsToParse e x
 fails OutOfMemory x ne n = tt
 fails (NotAFile k) x ne n = n

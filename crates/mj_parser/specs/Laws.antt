@@ -6,7 +6,7 @@ use Rattle.mj_parser.specs.Declarations.{Derives}
 use Rattle.mj_parser.specs.FileReading.{tree_of}
 use Rattle.mj_parser.specs.MarkBounds.{FileMarksBelow}
 
--- Tokens are those of a file exactly where reading finds the file, so they are those of one file at
+-- Tokens are those of a file exactly if reading finds the file, so they are those of one file at
 -- most.
 abbrev pub GrammarLaws : Type 0
 GrammarLaws = (ts : List Token) (f : File) → Derives ts f ↔ (tree_of ts ≡ Some f)

@@ -234,7 +234,7 @@ fn begins_statement(tokens: &[Token], at: usize) -> bool {
         || name(tokens, at).is_some()
 }
 
-/// Why a statement isn't read where its levels don't suffice.
+/// Why a statement isn't read if its levels don't suffice.
 fn refusal(tokens: &[Token], at: usize) -> ParseFault
     ensures { result ≢ OutOfMemory }
 {

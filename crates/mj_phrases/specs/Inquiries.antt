@@ -26,7 +26,7 @@ pub data Inquiry (R : Type 0) : Type 0 where
   AsksMethod : (class name : Name) → (Option Sig → Inquiry R) → Inquiry R
   AsksDeclared : (class : Name) → (Bool → Inquiry R) → Inquiry R
 
--- the conclusion, where the declarations give the answers
+-- the conclusion, if the declarations give the answers
 abbrev pub conclusion : {R : Type 0} → World → Inquiry R → R
 conclusion w (Concludes r) = r
 conclusion w (AsksDescent c d k) = conclusion w (k (w.descends c d))

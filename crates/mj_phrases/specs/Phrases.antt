@@ -134,7 +134,7 @@ add_each w mistakes (p ∷ ps) = add_each w (add_faults w mistakes p) ps
 
 -- ---- the same as a check that asks
 
--- the type of a phrase, where it has one, and the mistakes so far
+-- the type of a phrase, if it has one, and the mistakes so far
 pub record Finding (T : Type 0) : Type 0 where
   pub type : Option T
   pub mistakes : List Mistake
@@ -154,7 +154,7 @@ one_type a mistakes = record { type = and_type a (Some []); mistakes = mistakes 
 abbrev pub both_types : Option Ty → Option Ty → List Mistake → Finding (List Ty)
 both_types a b mistakes = record { type = and_type a (and_type b (Some [])); mistakes = mistakes }
 
--- where all parts have types the phrase's demands are asked in their order
+-- if all parts have types, the phrase's demands are asked in their order
 abbrev pub own_step : ℕ → (List Ty → Inquiry Verdict) → Finding (List Ty) → (Finding Ty → Check)
     → Check
 own_step mark row found next = of_types found.type

@@ -16,7 +16,7 @@ use std::alloc::{AllocError, Global};
 /// The greatest value of `int`.
 const GREATEST_VALUE: u32 = 2147483647;
 
-/// The type of a literal, where its value fits.
+/// The type of a literal, if its value fits.
 #[tactic(auto, unfolding(crate::specs::Table::literal))]
 pub fn literal(value: u32) -> Verdict
     ensures { literal value ≡ Concludes result }

@@ -130,7 +130,7 @@ pub fn check<A: Asking>(
     }
 }
 
-/// The verdict on a negation, where its operand has a type.
+/// The verdict on a negation, if its operand has a type.
 fn conclude_negation<E>(
     mark: usize,
     operand: Option<Ty>,
@@ -147,7 +147,7 @@ fn conclude_negation<E>(
     note(mistakes, mark, rows::negation(&operand))
 }
 
-/// The verdict on an array's length, where the array has a type.
+/// The verdict on an array's length, if the array has a type.
 fn conclude_length<E>(
     mark: usize,
     array: Option<Ty>,
@@ -164,7 +164,7 @@ fn conclude_length<E>(
     note(mistakes, mark, rows::array_length(&array))
 }
 
-/// The verdict on a new array, where its length has a type.
+/// The verdict on a new array, if its length has a type.
 fn conclude_new_array<E>(
     mark: usize,
     length: Option<Ty>,
@@ -181,7 +181,7 @@ fn conclude_new_array<E>(
     note(mistakes, mark, rows::new_array(&length))
 }
 
-/// The verdict on an operator, where both operands have types.
+/// The verdict on an operator, if both operands have types.
 fn conclude_binary<E>(
     mark: usize,
     operator: Operator,
@@ -200,7 +200,7 @@ fn conclude_binary<E>(
     note(mistakes, mark, rows::binary(operator, &left, &right))
 }
 
-/// The verdict on an array's element, where the array and the index have types.
+/// The verdict on an array's element, if the array and the index have types.
 fn conclude_index<E>(
     mark: usize,
     array: Option<Ty>,
@@ -218,7 +218,7 @@ fn conclude_index<E>(
     note(mistakes, mark, rows::index(&array, &index))
 }
 
-/// The verdict on a call, where all its parts have types.
+/// The verdict on a call, if all its parts have types.
 fn conclude_call<A: Asking>(
     alloc: Global,
     asking: &mut A,

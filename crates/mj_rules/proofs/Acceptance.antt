@@ -1,4 +1,4 @@
--- A check accepts what the chains say, where its answers are those of the chains.
+-- A check accepts what the chains say, if its answers are those of the chains.
 use Rattle.std.proofs.Common.{◌≡◌, true, List, Contains, refl, ap, subst, sym, inl, inr, ◌↔◌}
 use Rattle.mj_tree.specs.Trees.{Name}
 use Rattle.mj_tree.specs.declared.tree.Ty.{Ty}

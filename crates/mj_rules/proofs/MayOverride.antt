@@ -1,4 +1,4 @@
--- The test of a method that overrides another passes exactly where it may.
+-- The test of a method that overrides another passes exactly if it may.
 use Rattle.std.proofs.Common.{◌≡◌, true, List, map, ap, sym, ◌∙◌, ◌↔◌}
 use Rattle.std.proofs.lemmas.Bool.{and_parts, and_from}
 use Rattle.mj_tree.specs.Trees.{Method}

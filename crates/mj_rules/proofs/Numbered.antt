@@ -57,7 +57,7 @@ to_each faults n (y ∷ xs) (b ∷ flags) d (suc i) flag x e f h =
     let same : n + suc i ≡ n + 1 + i = omega arith in
     Contains-append_right (faults n b y) _ d (to_each faults (n + 1) xs flags d i flag x e f (subst (λ k. Contains (faults k flag x) d) same h))
 
--- the same where the numbers begin with 0
+-- the same if the numbers begin with 0
 pub record IsFlagged {A : Type 0} (faults : ℕ → Bool → A → List Diagnostic) (xs : List A) (flags : List Bool) (d : Diagnostic) : Type 0 where
   pub i : ℕ
   pub flag : Bool

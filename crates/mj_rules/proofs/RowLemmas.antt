@@ -31,7 +31,7 @@ found_stands {A} p (y ∷ xs) x e = by_test (p y) refl (found_stands p xs x) e
     by_test true h behind f = subst (λ (z : A). Contains (y ∷ xs) z × (p z ≡ true)) (same_Some y x f) (Contains-first y xs, h)
     by_test false h behind f = let r = behind f in (Contains-later y xs x r.0, r.1)
 
--- something passes where one of the list does
+-- something passes if one of the list does
 pub finds_one : {A : Type 0} (p : A → Bool) (xs : List A) (i : ℕ) (x : A) → slice_get xs i ≡ Some x → p x ≡ true → find p xs ≡ None → ⊥
 finds_one p [] i x e t f = none-some x e
 finds_one p (y ∷ xs) zero x e t f = none-some y (sym f ∙ ap (λ b. cond b (Some y) (find p xs)) (ap p (same_Some y x e) ∙ t))

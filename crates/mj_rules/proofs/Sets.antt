@@ -13,7 +13,7 @@ use Rattle.ordered_names.proofs.Orders.{names}
 use Rattle.mj_answer.proofs.Orders.{faults}
 use Rattle.mj_rules.specs.Answering.{with_element, set_of, name_order, fault_order}
 
--- what a comparison tells
+-- what a comparison says
 pub record Compares {X : Type 0} (compare : X → X → Ordering) (B : X → X → Type 0) : Type 0 where
   pub order : IsStrictTotalOrder B
   pub less : (x y : X) → compare x y ≡ Less → B x y
@@ -134,7 +134,7 @@ name_eq m n e = ap (name_order m) (sym e) ∙ tied_itself nat_list_cmp_total m
 name_gt : (m n : List ℕ) → NameBefore n m → name_order m n ≡ Greater
 name_gt m n h = nat_list_cmp_total.antisymm m n ∙ ap ordering_reverse h
 
--- the first part decides, or the others do where it is a tie
+-- the first part decides, or the others do if it is a tie
 at_first : (a b : Ordering) (o : Ordering) → a ≡ o → (o ≡ Equal → ⊥) → ordering_then a b ≡ o
 at_first a b Less e never = ap (λ x. ordering_then x b) e
 at_first a b Greater e never = ap (λ x. ordering_then x b) e

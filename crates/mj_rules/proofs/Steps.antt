@@ -65,7 +65,7 @@ flag_read spec flags n d e within = ap (λ fs. slice_get fs n) (sym e) ∙ slice
 pub flag_within : (names : List (List ℕ)) (flags : List Bool) (n : ℕ) → flags ≡ repeats names → n < length names → n < length flags
 flag_within names flags n e within = let same = ap length e ∙ length-repeats names in omega (arith, same)
 
--- what is added where the flag has this value
+-- what is added if the flag has this value
 pub flag_is : (faults : Bool → List Diagnostic) (old new : List Diagnostic) (flag b : Bool) → flag ≡ b → new ≡ old ++ faults b → new ≡ old ++ faults flag
 flag_is faults old new flag b e h = h ∙ ap (λ f. old ++ faults f) (sym e)
 

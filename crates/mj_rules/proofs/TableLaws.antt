@@ -29,7 +29,7 @@ found_name {A} name x (b ∷ bs) a e = by_test (bytes_eq (name b) x) refl (found
     by_test true h behind f = ap name (sym (same_Some b a f)) ∙ (bytes_eq-Decides (name b) x).0 h
     by_test false h behind f = behind f
 
--- elements ascend by their names where the names ascend
+-- elements ascend by their names if the names ascend
 pub ascend_by_names : {X : Type 0} (name : X → Name) (xs : List X) → IsAscendingBy NameBefore (map name xs) → IsAscendingByName name xs
 ascend_by_names name [] h = tt
 ascend_by_names {X} name (x ∷ xs) h = (each xs h.0, ascend_by_names name xs h.1)

@@ -31,7 +31,7 @@ use Rattle.mj_rules.specs.ClassFaults.{main_word, main_of}
 abbrev pub fault : Place → Code → Diagnostic
 fault place code = record { place = place; code = code }
 
--- a diagnostic where the test holds
+-- a diagnostic if the test holds
 abbrev pub when_fault : Bool → Place → Code → List Diagnostic
 when_fault b place code = if b then fault place code ∷ [] else []
 
@@ -49,7 +49,7 @@ abbrev pub has_main : Option File → Bool
 has_main None = false
 has_main (Some tree) = is_some tree.main
 
--- what is wrong with a file, where an earlier one has a main class or none has
+-- what is wrong with a file, by whether an earlier one has a main class
 abbrev pub file_faults : Bool → Name → Option File → List Diagnostic
 file_faults main_before name None = fault (places.File name) E101 ∷ []
 file_faults main_before name (Some tree) =
@@ -148,7 +148,7 @@ rest_of cs c = drop 1 (ancestry cs c)
 abbrev pub nearest_sig : List ClassDecl → Name → Option Sig
 nearest_sig ks m = option_map (λ found. sig_of found.1) (nearest (own_method m) ks)
 
--- what is wrong with a method, where these are the methods of the rest of the chain by their names
+-- what is wrong with a method, if these are the methods of the rest of the chain by their names
 abbrev pub method_faults_of : Profile → List ClassDecl → (Name → Option Sig) → ℕ → Bool → Method
     → List Diagnostic
 method_faults_of profile cs overridden n repeated m =

@@ -27,7 +27,7 @@ pub record Says (cs : List ClassDecl) (w : World) : Type 0 where
   pub descends : (c d : Name)
       → (w.descends c d ≡ true)
       ↔ ((chain : List Name) × (end : EndOf) × IsChain cs c chain end × Contains chain d)
-  -- a type is accepted in the check of a body exactly where the chains say so
+  -- a type is accepted in the check of a body exactly if the chains say so
   pub accepted : (t u : Ty) → Accepted w t u ↔ IsAcceptedBy cs t u
   pub field : (c x : Name) (t : Ty)
       → (w.field c x ≡ Some t)

@@ -15,7 +15,7 @@ use named_files::{Project, repeats};
 use ordered_names::Name;
 use std::alloc::{AllocError, Global};
 
-/// Adds what is wrong with a file, where an earlier one has a main class or none has.
+/// Adds what is wrong with a file, by whether an earlier one has a main class.
 fn add_file_fault(
     alloc: Global,
     faults: &mut Vec<Diagnostic>,
@@ -49,7 +49,7 @@ fn has_main(tree: &Option<FileTree>) -> bool
     }
 }
 
-/// Adds what is wrong with the files, and tells whether one of them has a main class.
+/// Adds what is wrong with the files, and says whether one of them has a main class.
 pub fn add_file_faults(
     alloc: Global,
     faults: &mut Vec<Diagnostic>,

@@ -131,7 +131,7 @@ module _ (cs : List ClassDecl) (k : ClassDecl) (here : decl cs k.name ≡ Some k
       one : filter_map (decl cs) (k.name ∷ []) ≡ k ∷ []
       one = rw here refl
 
-  -- nothing stands behind it where no declared class stands above
+  -- nothing stands behind it if no declared class stands above
   pub behind_none : ((u : Name) → k.superclass ≡ Some u → decl cs u ≡ None) → StandBehind cs k []
   behind_none none =
       let has = has_chain cs k.name k here in

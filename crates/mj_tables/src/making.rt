@@ -71,7 +71,7 @@ fn add_tables<'a>(
 }
 
 /// The places above this one whose classes have no table yet, the nearest first: those in front of the first class that
-/// has one, or, where none has, those up to the class where the walk turns.
+/// has one, or, if none has, those up to the class where the walk turns.
 fn missing_above(
     alloc: Global,
     declarations: &Declarations,

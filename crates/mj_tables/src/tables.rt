@@ -53,7 +53,7 @@ impl<'a> MemberTables<'a> {
         &self.declarations
     }
 
-    /// The table of a class, or `None` where it isn't declared.
+    /// The table of a class, or `None` if it isn't declared.
     pub fn table(&self, class: &Name) -> Option<&MemberTable<'a>>
         ensures { MatchOption result (decl (declared_in self.now) class.now ≡ None)
             (λ t. IsTableOf (declared_in self.now) class.now t.now) }

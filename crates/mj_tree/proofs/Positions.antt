@@ -107,7 +107,7 @@ nothing_pushed p xs y e =
     let past : length (xs ++ y ∷ []) ≤ position_or_len p (xs ++ y ∷ []) = omega arith in
     it_is_none (position_or_len p (xs ++ y ∷ [])) (length (xs ++ y ∷ [])) past
 
--- one element more, which passes where none did
+-- one element more, which passes if none did
 pub position_added : {X : Type 0} (p : X → Bool) (xs : List X) (y : X) → position p xs ≡ None → p y ≡ true → position p (xs ++ y ∷ []) ≡ Some (length xs)
 position_added p xs y e t =
     let end = none_before (position_or_len p xs) (length xs) (prefix_len-le-length (λ x. not (p x)) xs) e in

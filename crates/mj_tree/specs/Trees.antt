@@ -1,4 +1,4 @@
--- Trees without where they lie in memory. Each phrase has its mark, the number of a token.
+-- Trees, apart from where they lie in memory. Each phrase has its mark, the number of a token.
 use Rattle.std.specs.Prelude.{ℕ, Bool, List, Option}
 use Rattle.mj_tree.specs.declared.tree.Operator.{Operator}
 use Rattle.mj_tree.specs.declared.tree.Ty.{Ty}

@@ -81,7 +81,7 @@ fn mistakes_of(outcome: Result<Vec<Mistake>, Stop<Infallible>>) -> Result<Vec<Mi
     }
 }
 
-/// The mistakes in a method of the class, where the declarations answer by themselves.
+/// The mistakes in a method of the class, if the declarations answer by themselves.
 pub fn method_mistakes<D: Environment>(
     alloc: Global,
     declarations: &D,
@@ -95,7 +95,7 @@ pub fn method_mistakes<D: Environment>(
     mistakes_of(check_method(alloc, &mut Plain { declarations }, class, method))
 }
 
-/// The mistakes in main, where the declarations answer by themselves.
+/// The mistakes in main, if the declarations answer by themselves.
 pub fn main_mistakes<D: Environment>(
     alloc: Global,
     declarations: &D,

@@ -16,7 +16,7 @@ use Rattle.graph_rules.specs.Next.{IsOfProject, IsReadIn, AreNext}
 abbrev pub IsOfSomeProject : Meaning → ReadLists → Past → Type 0
 IsOfSomeProject mean reads now = (p : Project) × IsOfProject mean reads now p
 
--- The previous session, where there is one, is a session of some project by its own profile, and no two
+-- The previous session, if there is one, is a session of some project by its own profile, and no two
 -- different results, one of it and one of this session, share a fingerprint.
 pub record StandsApart (queries : Queries) (past : Option SessionValue) (s : SessionValue) : Type 0 where
   pub past_is : IfSome past

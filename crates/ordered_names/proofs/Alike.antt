@@ -25,7 +25,7 @@ each : {X : Type 0} (P : X → Type 0) (xs : List X) (z : X) → AllByRecursion 
 each P [] z all h = absurd (nowhere z h)
 each P (x ∷ xs) z all h = elim (Contains-cases x xs z h) [ inl e ↦ subst P e all.0 | inr i ↦ each P xs z all.1 i ]
 
--- where no two come before each other
+-- if no two come before each other
 pub one_list : (X : Type 0) (B : X → X → Type 0) → ((x y : X) → B x y → B y x → ⊥) → (xs ys : List X) → IsAscendingBy B xs → IsAscendingBy B ys
     → ((z : X) → Contains xs z → Contains ys z) → ((z : X) → Contains ys z → Contains xs z) → xs ≡ ys
 one_list X B one [] [] up vp f g = refl

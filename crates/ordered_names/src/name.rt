@@ -89,7 +89,7 @@ impl Name {
         })
     }
 
-    /// A name with this text, or `None` where the text is empty or too long.
+    /// A name with this text, or `None` if the text is empty or too long.
     pub fn try_new(alloc: Global, text: &str) -> Result<Option<Self>, AllocError>
         ensures { IfOk result (λ name.
             SomeIff name ((0 < length text.now) × (length text.now ≤ most_name_bytes)) text.now) }

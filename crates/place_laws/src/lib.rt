@@ -3,7 +3,7 @@
 
 ghost use Rattle.place_laws.specs.Laws.{PlacesLaw};
 
-/// Where a tree is derived from tokens, `token_of` names the tokens that its parts were derived from: the name
+/// If a tree is derived from tokens, `token_of` names the tokens that its parts were derived from: the name
 /// behind the word `class`, the name of a field or of a method, and the tokens of a method from its `public` on.
 pub fn places_law()
     ensures { PlacesLaw }

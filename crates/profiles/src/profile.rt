@@ -22,7 +22,7 @@ impl Profile {
         }
     }
 
-    /// The profile that has this number, or `None` where none has.
+    /// The profile that has this number, or `None` if none has.
     pub fn from_number(number: u8) -> Option<Profile>
         ensures found { IfSome result (λ profile. profile_number profile ≡ number) }
         ensures known { IsSome result ↔ ((1 ≤ number) × (number ≤ 2)) }

@@ -36,7 +36,7 @@ by_rules asked report a b c d is written = record {
 true_false : true ≡ false → ⊥
 true_false e = cc
 
--- words that ask for a check ask for no subcommand of another name
+-- arguments that ask for a check ask for no subcommand of another name
 not_check : (given : List (List ℕ)) (other : Subcommand) → AsksFor given Check → AsksFor given other → bytes_eq (codes "check") (word_for other) ≡ false → ⊥
 not_check given other check asks differs =
     let same : word_for Check ≡ word_for other = same_Some (word_for Check) (word_for other) (sym check ∙ asks) in

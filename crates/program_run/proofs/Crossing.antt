@@ -7,7 +7,7 @@ use Rattle.graph_rules.proofs.SettingRules.{same_test}
 use Rattle.sessions.specs.Sessions.{SessionValue}
 use Rattle.program_run.specs.Shows.{crossing_of}
 
--- over a session before they cross where the profiles differ
+-- over a session before they cross if the profiles differ
 pub crossing_now : (past now : SessionValue) (same : Bool) → (IsTrue same ↔ (past.terms.profile ≡ now.terms.profile))
     → (if same then [] else kinds.CheckClass ∷ []) ≡ crossing_of (Some past) now
 unfolding crossing_kinds

@@ -38,7 +38,7 @@ has_answer false s e = inr e
 
 -- ---- ends
 
--- only words that are help end clean
+-- only arguments that ask for help end clean
 clean_words : (why : Failure) → status_of_failure why ≡ status.Clean → (fault : WordsFault) × (why ≡ failure.Words fault)
 clean_words (failure.Words fault) e = (fault, refl)
 clean_words (failure.Project project.OutOfMemory) e = absurd cc
@@ -172,7 +172,7 @@ module _ {File : Type 0} (held : File → Option (List ℕ)) (before after : Opt
   no_words (asked.Scratch given) fault f = f
   no_words words fault f = f
 
-  -- what is asked for doesn't end clean where it fails
+  -- what is asked for doesn't end clean if it fails
   pub fails_not_clean : (words : Words) (why : Failure) → FailsAt held words before after why → status_of_failure why ≢ status.Clean
   fails_not_clean words why f = λ e.
       let is = clean_words why e in

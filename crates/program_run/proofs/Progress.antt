@@ -99,7 +99,7 @@ told_nothing true name None none = refl
 told_nothing false name None none = refl
 told_nothing progress name (Some s) none = absurd cc
 
--- where it is wanted the line on the last session is said
+-- if it is wanted, the line on the last session is said
 pub told_this : (progress : Bool) (name line : List ℕ) (last : Option SessionValue) (s : SessionValue) → progress ≡ true → last ≡ Some s → line ≡ progress_line name s
     → line ≡ told_last progress name last
 told_this true name line (Some t) s wanted same is = let e : t ≡ s = cc in is ∙ ap (progress_line name) (sym e)

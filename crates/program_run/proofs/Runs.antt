@@ -44,7 +44,7 @@ delivered Says report s a b c d says (inl refused) (inr ends) = absurd cc
 delivered Says report s a b c d says written (inl ends) = absurd cc
 delivered Says report s a b c d says written (inr ends) = absurd cc
 
--- the report on what the words ask for, or help
+-- the report on what the arguments ask for, or help
 pub prints : (given : List (List ℕ)) (report : Report) (s : Status) (out_old out_new err_old between err_new : Option (List ℕ))
     → (IsAnswerStatus report.status → ReportsAsked given err_old between report ⊎ TellsHelp given err_old between report)
     → (s ≡ status.Refused) ⊎ ((s ≡ report.status) × IsWritten report out_old out_new between err_new)
@@ -59,12 +59,12 @@ plain_reports : (subcommand : Subcommand) (given names : List (List ℕ)) → fi
 plain_reports subcommand given names plain before after report (inl reports) = reports
 plain_reports subcommand given names plain before after report (inr help) = absurd (help.other subcommand (ap is_some plain))
 
--- plain words have nothing said before the report
+-- plain arguments have nothing said before the report
 plain_silent : (asked : Words) → HasDefaults asked → (told : List ℕ) (report : Report) → Reports asked told report → told ≡ []
 plain_silent (words.Audit w) plain told report reports = reports.told_is ∙ ap (λ progress. told_of progress (file_names w) reports.each) plain.1
 plain_silent asked plain told report reports = reports.0
 
--- the report on what plain words ask for
+-- the report on what plain arguments ask for
 pub prints_plain : (subcommand : Subcommand) (given names : List (List ℕ)) (number : ℕ) (out_old out_new err_old err_new : Option (List ℕ))
     → files_for subcommand given ≡ Some names → Prints given number out_old out_new err_old err_new
     → PrintsPlain subcommand names number out_old out_new err_old err_new

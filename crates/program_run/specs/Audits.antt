@@ -1,4 +1,4 @@
--- What an audit of the files that the words name ends with, and what it says of each of them.
+-- What an audit of the files that the arguments name ends with, and what it says of each of them.
 use Rattle.std.specs.Prelude.{◌≡◌, ◌≢◌, ◌⊎◌, ℕ, Bool, true, false, List, [], ◌∷◌, ◌++◌, Option, Some, None, codes, decimal, length, map, slice_get, String, string_bytes}
 use Rattle.std.specs.Io.KnownBytes.{Appends}
 use Rattle.std.specs.List.{AllByRecursion}
@@ -121,8 +121,8 @@ pub record TookAll (names : List (List ℕ)) (progress : Bool) (before after : O
   pub front : TookFirst names progress before after auditor
   pub many : length front.files ≡ length names
 
--- Behind the files taken an opened file is refused, by the bytes that it held where its type tells
--- them, whatever may follow.
+-- Behind the files taken an opened file is refused, by the bytes that it held if its type says
+-- which, whatever may follow.
 pub record RefusesOpened {File : Type 0} (held : File → Option (List ℕ)) (front : List (List ℕ))
     (fault : AuditFault) : Type 0 where
   pub opened : File

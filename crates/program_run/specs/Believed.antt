@@ -25,7 +25,7 @@ pub record IsTextByRules (number : ℕ) (names : List (List ℕ)) (text : List �
   pub rules : Rules profile files answer
   pub text_is : text ≡ text_of answer
 
--- A session was made over the previous one that was read, where there is one. Where that is one of some
+-- A session was made over the previous one that was read, if there is one. If that is one of some
 -- project, and no two different results, one of it and one of the session made, share a fingerprint,
 -- standard output has grown by the text of the answer that the rules give the files.
 pub record ChecksByRules (asked : CheckWords) (out_old out_new : Option (List ℕ)) : Type 0 where
@@ -36,13 +36,13 @@ pub record ChecksByRules (asked : CheckWords) (out_old out_new : Option (List �
   pub by_rules : StandsApart queries past made
       → IsTextByRules asked.profile (map string_bytes asked.files.items) text
 
--- The words ask for this check, whose answer is by the rules.
+-- The arguments ask for this check, whose answer is by the rules.
 pub record PrintsByRules (given : List (List ℕ)) (out_old out_new : Option (List ℕ)) : Type 0 where
   pub asked : CheckWords
   pub asks : Asks given (words.Check asked)
   pub checks : ChecksByRules asked out_old out_new
 
--- The words get help.
+-- The arguments get help.
 pub record PrintsHelp (given : List (List ℕ)) (out_old out_new : Option (List ℕ)) : Type 0 where
   pub report : Report
   pub before : Option (List ℕ)
@@ -50,7 +50,7 @@ pub record PrintsHelp (given : List (List ℕ)) (out_old out_new : Option (List 
   pub help : TellsHelp given before after report
   pub written : Appends out_old out_new (string_bytes report.answer)
 
--- words that ask for a check get its answer, by the rules, or help
+-- arguments that ask for a check get its answer, by the rules, or help
 abbrev pub PrintsBelieved : List (List ℕ) → Option (List ℕ) → Option (List ℕ) → Type 0
 PrintsBelieved given out_old out_new =
     PrintsByRules given out_old out_new ⊎ PrintsHelp given out_old out_new

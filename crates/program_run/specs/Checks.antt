@@ -39,7 +39,7 @@ pub record ChecksTo (terms : Terms) (messages : Bool) (dir : List ℕ) (names : 
   pub next : IsNextAt terms beginning files session
   pub tells : TellsSession files messages (string_bytes beginning.notes) session report
 
--- A report on what these words ask for: the terms are those of the numbers that they have.
+-- A report on what these arguments ask for: the terms are those of the numbers that they have.
 pub record ChecksAsked (asked : CheckWords) (report : Report) : Type 0 where
   pub terms : Terms
   pub profile : profile_number terms.profile ≡ asked.profile

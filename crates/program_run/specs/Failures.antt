@@ -80,7 +80,7 @@ ExplainFails asked _ = ⊥
 
 -- ---- runs
 
--- Why what the words ask for fails. Only an audit says something on standard error before.
+-- Why what the arguments ask for fails. Only an audit says something on standard error before.
 abbrev pub FailsAt : {File : Type 0} → (File → Option (List ℕ)) → Words → Option (List ℕ)
     → Option (List ℕ) → Failure → Type 0
 FailsAt held (words.Scratch asked) before after why =
@@ -95,19 +95,19 @@ FailsAt held (words.Why asked) before after why =
 FailsAt held (words.Explain asked) before after why =
     ExplainFails asked.items why
 
--- What these words ask for fails for this reason.
+-- What these arguments ask for fails for this reason.
 pub record FailsAsked {File : Type 0} (held : File → Option (List ℕ)) (given : List (List ℕ))
     (before after : Option (List ℕ)) (why : Failure) : Type 0 where
   pub asked : Words
   pub asks : Asks given asked
   pub fails : FailsAt held asked before after why
 
--- memory ran out, or the words aren't plain ones
+-- memory ran out, or the arguments aren't plain ones
 abbrev pub RefusesWords : List (List ℕ) → WordsFault → Type 0
 RefusesWords given fault =
     (subcommand : Subcommand) → IsTrue (asks_plainly subcommand given) → fault ≡ refusal.OutOfMemory
 
--- why a run with these words fails: they are refused or ask for help, or what they ask for fails
+-- why a run with these arguments fails: they are refused, ask for help, or what they ask for fails
 abbrev pub MayFail : {File : Type 0} → (File → Option (List ℕ)) → List (List ℕ)
     → Option (List ℕ) → Option (List ℕ) → Failure → Type 0
 MayFail held given before after (failure.Words fault) =

@@ -71,8 +71,8 @@ status_number status.Refused = 2
 status_number status.ChainRefused = 3
 status_number status.OutOfMemory = 4
 
--- The report on what the words ask for, and what was said on standard error before. Only an audit
--- says something there, on each file as it is taken.
+-- The report on what the arguments ask for, and what was said on standard error before. Only an
+-- audit says something there, on each file as it is taken.
 abbrev pub Reports : Words → List ℕ → Report → Type 0
 Reports (words.Scratch asked) told report = (told ≡ []) × ReportsOn asked report
 Reports (words.Check asked) told report = (told ≡ []) × ChecksAsked asked report
@@ -82,7 +82,7 @@ Reports (words.Why asked) told report = (told ≡ []) × SaysWhy asked report
 Reports (words.Explain asked) told report =
     (told ≡ []) × Explains asked.items report
 
--- The report on what these words ask for, when standard error has what is said before.
+-- The report on what these arguments ask for, when standard error has what is said before.
 pub record ReportsAsked (given : List (List ℕ)) (before after : Option (List ℕ))
     (report : Report) : Type 0 where
   pub asked : Words
@@ -91,7 +91,7 @@ pub record ReportsAsked (given : List (List ℕ)) (before after : Option (List �
   pub said : Appends before after told
   pub reports : Reports asked told report
 
--- Help: nothing stands on standard error. Plain words get none.
+-- Help: nothing stands on standard error. Plain arguments get none.
 pub record TellsHelp (given : List (List ℕ)) (before after : Option (List ℕ))
     (report : Report) : Type 0 where
   pub other : (subcommand : Subcommand) → IsTrue (asks_plainly subcommand given) → ⊥
@@ -99,8 +99,8 @@ pub record TellsHelp (given : List (List ℕ)) (before after : Option (List ℕ)
   pub notes : string_bytes report.notes ≡ []
   pub ends : report.status ≡ status.Clean
 
--- The report on what the words ask for, or help, is written behind what is said before, and the run
--- ends with its status.
+-- The report on what the arguments ask for, or help, is written behind what is said before, and the
+-- run ends with its status.
 pub record Prints (given : List (List ℕ)) (status : ℕ)
     (out_old out_new err_old err_new : Option (List ℕ)) : Type 0 where
   pub report : Report
@@ -121,7 +121,7 @@ pub record PrintsPlain (subcommand : Subcommand) (names : List (List ℕ)) (stat
 
 -- ---- audits without an answer
 
--- The words ask for an audit of files, which refuses their chain with this fault.
+-- The arguments ask for an audit of files, which refuses their chain with this fault.
 pub record RefusesAudit {File : Type 0} (held : File → Option (List ℕ)) (given : List (List ℕ))
     (before after : Option (List ℕ)) (fault : AuditFault) : Type 0 where
   pub asked : AuditWords

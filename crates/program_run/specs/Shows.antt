@@ -81,7 +81,7 @@ pub record IsGraphOf (of : Option (List ℕ)) (past : Option SessionValue) (s : 
   pub named : IsNamedRoot of s root
   pub graph : IsDotText past s root text
 
--- the graph where it is wanted, else the list of the records
+-- the graph if it is wanted, else the list of the records
 abbrev pub IsShown : Bool → Option (List ℕ) → Option SessionValue → SessionValue → List ℕ → Type 0
 IsShown true of past s text = IsGraphOf of past s text
 IsShown false of past s text = text ≡ text_of_session s

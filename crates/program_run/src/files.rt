@@ -1,4 +1,4 @@
-//! The files that the words name.
+//! The files that the arguments name.
 ghost use Rattle.std.specs.Prelude.{◌≡◌, ◌≢◌, IfOk, IfErr, map, string_bytes};
 ghost use Rattle.std.specs.IoError.{error_kind};
 ghost use Rattle.program_run.specs.Unread.{AreUnread, IsUnreadFile};

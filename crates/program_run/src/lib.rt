@@ -1,4 +1,4 @@
-//! One run of the program: the words of the command line, what they ask for, and what is written.
+//! One run of the program: the arguments of the command line, what they ask for, and what is written.
 #![tactic(auto)]
 
 mod failure;

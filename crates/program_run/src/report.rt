@@ -98,7 +98,7 @@ impl Report {
     }
 }
 
-/// Writes the notes, and then the answer. Where one of them can't be written the run is refused.
+/// Writes the notes, and then the answer. If one of them can't be written the run is refused.
 pub(crate) fn deliver<W: Write, E: Write>(report: &Report, out: &mut W, err: &mut E) -> Status
     ensures { (result ≡ Status.Refused)
         ⊎ ((result ≡ report.now.status)
@@ -115,7 +115,7 @@ pub(crate) fn deliver<W: Write, E: Write>(report: &Report, out: &mut W, err: &mu
     report.status
 }
 
-/// Says that memory ran out, for which it takes none. Where that can't be written the run is refused.
+/// Says that memory ran out, for which it takes none. If that can't be written the run is refused.
 pub(crate) fn no_memory<E: Write>(err: &mut E) -> Status
     ensures { (result ≡ Status.Refused)
         ⊎ ((result ≡ Status.OutOfMemory)

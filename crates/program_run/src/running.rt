@@ -29,7 +29,7 @@ use std::rt::Files;
 use std::sync::Wait;
 use std::thread::Threads;
 
-/// Does what the words of the command line ask for; the first is the program's name. Writes standard error, then
+/// Does what the arguments of the command line ask for; the first is the program's name. Writes standard error, then
 /// standard output, and gives the exit status. Only a check starts threads, and only an audit writes to standard error
 /// before it is done, if that is asked for.
 pub fn run<R: Files + AllocGlobal, T: Threads + Wait + Sync, W: Write, E: Write>(
@@ -51,7 +51,7 @@ pub fn run<R: Files + AllocGlobal, T: Threads + Wait + Sync, W: Write, E: Write>
         → files_for subcommand (map string_bytes list.items) ≡ Some names → EndsWithAnswer result
         → PrintsPlain subcommand names result (W.contents out.old) (W.contents out.new)
         (E.contents err.old) (E.contents err.new) }
-    // Why an audit refuses a chain, by the bytes of the files that were opened, if their type tells them.
+    // Why an audit refuses a chain, by the bytes of the files that were opened, if their type says which.
     ensures refused { result ≡ 3 → PrintsRefusal R.File.Read.remaining
         (map string_bytes list.items) (W.contents out.old) (W.contents out.new)
         (E.contents err.old) (E.contents err.new) }
@@ -63,7 +63,7 @@ pub fn run<R: Files + AllocGlobal, T: Threads + Wait + Sync, W: Write, E: Write>
     status.number()
 }
 
-// The texts and the end of a run with these words.
+// The texts and the end of a run with these arguments.
 #[tactic(auto, using(crate::proofs::Failures::reports_refusal, crate::proofs::Failures::reports_failure))]
 fn report_of<R: Files + AllocGlobal, T: Threads + Wait + Sync, E: Write>(
     rt: &R,
@@ -94,7 +94,7 @@ fn report_of<R: Files + AllocGlobal, T: Threads + Wait + Sync, E: Write>(
     }
 }
 
-// What the words ask for.
+// What the arguments ask for.
 #[tactic(auto, using(crate::proofs::Failures::has_answer, crate::proofs::Failures::refused_stops))]
 fn perform<R: Files + AllocGlobal, T: Threads + Wait + Sync, E: Write>(
     rt: &R,

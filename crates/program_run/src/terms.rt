@@ -1,4 +1,4 @@
-//! The terms that the words name.
+//! The terms that the arguments name.
 ghost use Rattle.std.specs.Prelude.{◌≡◌, ◌≤◌, ◌+◌};
 ghost use Rattle.profiles.specs.Profiles.{profile_number};
 ghost use Rattle.sessions.specs.Terms.{form_number};

@@ -1,9 +1,9 @@
 //! The sealed sources of files, by one thread or by several.
-ghost use Rattle.std.specs.Prelude.{◌≡◌, ◌<◌, ◌≤◌, ◌++◌, IfOk, IfSome, Some, length, map};
+ghost use Rattle.std.specs.Prelude.{◌≡◌, ◌<◌, ◌≤◌, ◌++◌, IfOk, IfSome, Some, is_some, length, map};
 ghost use Rattle.std.specs.Arc.{arc_value};
 ghost use Rattle.result_bytes.specs.declared.value.Value.TheVariants as values;
 ghost use Rattle.named_files.specs.Projects.{source_view};
-ghost use Rattle.project_inputs.specs.Inputs.{AreNamed, AreSourcesOf};
+ghost use Rattle.project_inputs.specs.Inputs.{AreNamed, AreSourcesOf, has_source};
 
 use crate::inputs::seal_to_share;
 use fingerprint::Sealed;
@@ -97,7 +97,7 @@ pub(crate) fn sealed_sources(
     Ok(sources)
 }
 
-/// The result of a file's source: that of the previous session where the bytes are the same, else one whose bytes are
+/// The result of a file's source: that of the previous session if the bytes are the same, else one whose bytes are
 /// copied.
 fn source_result(
     alloc: Global,
@@ -118,7 +118,7 @@ fn source_result(
     seal_to_share(alloc, Value::Source(Some(text)))
 }
 
-/// One more owner of the result that a session has for a file's source, where the bytes are the same.
+/// One more owner of the result that a session has for a file's source, if the bytes are the same.
 fn past_source(
     alloc: Global,
     past: &Session,
@@ -136,9 +136,10 @@ fn past_source(
     }
 }
 
-/// The result that a session has for a key, where it is a source with these bytes.
+/// The result that a session has for a key, or `None` if it isn't a source with these bytes.
 pub fn same_source<'a>(past: &'a Session, key: &Key, bytes: &[u8]) -> Option<&'a Arc<Sealed>>
-    ensures { IfSome result (λ a. arc_value a.now ≡ values.Source (Some bytes.now)) }
+    ensures source { IfSome result (λ a. arc_value a.now ≡ values.Source (Some bytes.now)) }
+    ensures there { is_some result ≡ has_source past.now key.now bytes.now }
 {
     let sealed = past.find(key)?.sealed();
     match sealed.value() {

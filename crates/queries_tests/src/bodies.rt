@@ -1,4 +1,4 @@
-//! The checks of bodies. One that calls a method which is there, and what is kept where a read of it is refused, stand with
+//! The checks of bodies. One that calls a method which is there, and what is kept if a read of it is refused, stand with
 //! the queries of whole projects.
 
 use crate::answers::{BODY_F, BODY_H, HEADER_Z, NO_HEADER_A, SUPERS_B, are_right};

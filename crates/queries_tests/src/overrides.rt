@@ -79,7 +79,7 @@ static IN_PROFILE_1: [Row; 3] = [
     },
 ];
 
-// In profile 2 the chain of a return type is read, where it was not read before: of neither an equal type, nor one that is
+// In profile 2 the chain of a return type is read, if it was not read before: of neither an equal type, nor one that is
 // no class, nor with other parameters.
 static IN_PROFILE_2: [Row; 6] = [
     Row {

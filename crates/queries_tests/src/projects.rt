@@ -313,7 +313,7 @@ fn runs_of_the_runner(rt: HostRuntime) -> Result<(), Fail> {
     Ok(())
 }
 
-// What is kept where the list lacks the members of the second class, which the body of `main` calls.
+// What is kept if the list lacks the members of the second class, which the body of `main` calls.
 const LACKING_MEMBERS: KeptReads = KeptReads {
     reads: &[METHOD_MAIN, HEADER_A],
     fault: Some(ReadFault::NotHeld),

@@ -163,7 +163,7 @@ module _ (profile : Profile) (p : Project) (c : Name) where
       ],
     )
 
-  -- the list is empty where the class isn't declared
+  -- the list is empty if the class isn't declared
   class_right : (Fault : Place → Code → Type 0) (faults : ClassDecl → List Diagnostic) → ((place : Place) (code : Code) → Fault place code → (k : ClassDecl) × IsFirstDeclaration p c k) → ((k : ClassDecl) → IsFirstDeclaration p c k → HasJust (faults k) Fault)
       → AreTheFaults Fault (faults_of faults (class_at p c))
   class_right Fault faults declared law = by_class (class_at p c) refl

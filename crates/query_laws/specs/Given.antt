@@ -22,7 +22,7 @@ use Rattle.result_bytes.specs.Payloads.{HeaderValue, SignatureValue, ChainValue}
 use Rattle.recorder.specs.Projects.{Project, bytes_at}
 use Rattle.query_rules.specs.Items.{end_value}
 
--- what is given, or None where nothing is
+-- what is given, or None if nothing is
 abbrev pub IsGivenOrNone : {X : Type 0} → (X → Type 0) → Option X → Type 0
 IsGivenOrNone {X} Is None = (x : X) → Is x → ⊥
 IsGivenOrNone Is (Some x) = Is x
@@ -33,7 +33,7 @@ IsGivenOrNone Is (Some x) = Is x
 abbrev pub IsTreeAt : Project → Name → File → Type 0
 IsTreeAt p file tree = (bytes : List ℕ) × (bytes_at p file ≡ Some bytes) × IsSentence bytes tree
 
--- The first class of the name in a file that is a sentence, where no earlier file that is one
+-- The first class of the name in a file that is a sentence, if no earlier file that is one
 -- declares the name.
 pub record IsDeclaration (p : Project) (c : Name) (k : ClassDecl) : Type 0 where
   pub source : SourceFile

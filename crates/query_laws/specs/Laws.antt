@@ -80,7 +80,7 @@ pub record AreFirsts (asked firsts : List Key) : Type 0 where
       → slice_get firsts i ≡ Some a → slice_get firsts j ≡ Some b
       → StandsFirst asked m a → StandsFirst asked n b → m < n
 
--- a run asks these keys, one after the other, where m answers
+-- a run asks these keys, one after the other, if m answers
 pub data RunAsks (m : Key → Value) : Prog → List Key → Type 0 where
   Ended : (v : Value) → RunAsks m (Ret v) []
   Asked : (k : Key) (f : Value → Prog) (ks : List Key)

@@ -1,4 +1,4 @@
--- Which keys the check of a body reads, in the words of its text. Where a phrase has a part without
+-- Which keys the check of a body reads, in the words of its text. If a phrase has a part without
 -- a type, the phrase itself reads nothing.
 use Rattle.std.specs.Prelude.{length, nat_eq, List, [], ◌∷◌, ◌++◌, flat_map, Option, Some, None, if◌then◌else◌}
 use Rattle.item_ids.specs.declared.key.Key.{Key}
@@ -29,13 +29,13 @@ field_reads None (Some c) = keys.Members c ∷ []
 abbrev pub name_reads : Scope → Name → List Key
 name_reads s x = field_reads (local_of s.variables x) s.class
 
--- a value of one type where another is wanted: the chain of its class, where both are classes and
+-- a value of one type where another is wanted: the chain of its class, if both are classes and
 -- differ
 abbrev pub accept_reads : Ty → Ty → List Key
 accept_reads (types.Class c) (types.Class d) = if is_same c d then [] else keys.Supers c ∷ []
 accept_reads t u = []
 
--- where both have types
+-- if both have types
 abbrev pub value_reads : Option Ty → Option Ty → List Key
 value_reads (Some t) (Some u) = accept_reads t u
 value_reads t u = []
@@ -47,7 +47,7 @@ arguments_reads w (t ∷ ts) [] = []
 arguments_reads w (t ∷ ts) (u ∷ us) =
     accept_reads t u ++ (if conclusion w (is_accepted t u) then arguments_reads w ts us else [])
 
--- where the method is there and the count is right
+-- if the method is there and the count is right
 abbrev pub called_reads : World → List Ty → Option Sig → List Key
 called_reads w ts None = []
 called_reads w ts (Some s) =

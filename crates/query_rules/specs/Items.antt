@@ -23,7 +23,7 @@ use Rattle.result_bytes.specs.declared.parts.ChainEnd.TheVariants as ends
 use Rattle.result_bytes.specs.Payloads.{HeaderValue, SignatureValue, ChainValue}
 use Rattle.recorder.specs.Projects.{Project, bytes_at}
 
--- the tree of the file of this name, where there is one and it is a sentence
+-- the tree of the file of this name, if there is one and it is a sentence
 abbrev pub tree_at : Project → Name → Option File
 tree_at p file = option_and_then file_of (bytes_at p file)
 
@@ -97,7 +97,7 @@ mistakes_in w c (Some (OfMethod m)) = method_faults w c m
 unfoldable pub fault_set : List Diagnostic → List Diagnostic
 fault_set faults = set_of fault_order faults
 
--- these diagnostics of a class, where it is declared
+-- these diagnostics of a class, if it is declared
 abbrev pub faults_of : (ClassDecl → List Diagnostic) → Option ClassDecl → List Diagnostic
 faults_of faults None = []
 faults_of faults (Some k) = fault_set (faults k)

@@ -20,7 +20,7 @@ unfoldable pub mean : Profile → Project → Key → Value
 mean profile p keys.Files = values.Files (names_of p)
 -- the bytes of the file of this name
 mean profile p (keys.Source f) = values.Source (bytes_at p f)
--- its tree, where it is a sentence
+-- its tree, if it is a sentence
 mean profile p (keys.Tree f) = values.Tree (tree_at p f)
 -- each class with its file, ascending
 mean profile p keys.Index = values.Index (index_of p)

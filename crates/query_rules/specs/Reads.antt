@@ -51,7 +51,7 @@ signatures p c = map row_signature (table_of (classes_in p) c).methods
 abbrev pub field_headers : List Field → List Key
 field_headers fields = flat_map (λ f. type_reads f.ty) fields
 
--- the chain of a method's return type, where the method has the parameter types of the one that it
+-- the chain of a method's return type, if the method has the parameter types of the one that it
 -- overrides, and their return types are classes and differ
 abbrev pub return_chain : Option Method → Option Sig → List Key
 return_chain (Some m) (Some sig) =
@@ -65,7 +65,7 @@ return_chains Two cs k =
     flat_map (λ m. return_chain (own_method m k) (nearest_sig (rest_of cs k.name) m))
     (method_names k)
 
--- where a class has methods and its chain a second class, the members of both, then the chains of
+-- if a class has methods and its chain a second class, the members of both, then the chains of
 -- return types
 abbrev pub overriding : List Method → List Name → List Key → List Key
 overriding [] chain returned = []

@@ -5,7 +5,7 @@ use Rattle.recorder.specs.Programs.{Prog, TiedAt}
 use Rattle.query_rules.specs.Meaning.{mean}
 use Rattle.query_rules.specs.Reads.{reads}
 
--- in this profile, where the other queries have their values, the program of q gives q its value
+-- in this profile, if the other queries have their values, the program of q gives q its value
 -- and asks what q reads
 abbrev pub TiesIn : Profile → Key → Prog → Type 0
 TiesIn profile q prog = TiedAt (mean profile) (reads profile) q prog

@@ -5,7 +5,7 @@ use Rattle.item_ids.specs.declared.key.Key.{Key}
 use Rattle.item_ids.specs.Keys.{kind_of}
 use Rattle.recorder.specs.Backed.{ReadLaws, Queries, AreLawful}
 
--- They hold where the profiles are one, or the key's kind doesn't go by the profile.
+-- They hold if the profiles are one, or the key's kind doesn't go by the profile.
 pub between : (queries : Queries) → AreLawful queries → (a b : Profile) (q : Key) → (a ≡ b) ⊎ (queries.by_profile (kind_of q) ≡ false)
     → ReadLaws (queries.mean a) (queries.reads a) (queries.mean b) (queries.reads b) q
 between queries laws a b q (inl e) =

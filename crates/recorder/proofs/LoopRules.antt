@@ -33,7 +33,7 @@ module _ {A S D : Type 0} (step : A → S → (S → Prog) → Prog) (xs : List 
   pub loop_end : (i : ℕ) (t : S) (new : Recording D) → LoopAt step xs s old i t new → length xs ≤ i → Goes (each step xs s) old t new
   loop_end i t new l h = record { goes = λ prog k w. subst (IsAt prog new) (each_nil step xs i h t k) (l.goes prog k w) }
 
--- what a loop means, where each step means a change of the state
+-- what a loop means, if each step means a change of the state
 unfoldable pub fold_of : {A S : Type 0} → (A → S → S) → List A → S → S
 fold_of f [] s = s
 fold_of f (a ∷ rest) s = fold_of f rest (f a s)

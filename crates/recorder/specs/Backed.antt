@@ -34,7 +34,7 @@ is_seen (x ∷ xs) k = if is_eq (key_cmp x k) then true else is_seen xs k
 abbrev pub Alike : (Key → Value) → (Key → Value) → List Key → Type 0
 Alike m n ks = AllByRecursion (λ k. m k ≡ n k) ks
 
--- Where p by one pair of meaning and reads and r by another agree on the first i reads of q in p,
+-- If p by one pair of meaning and reads and r by another agree on the first i reads of q in p,
 -- these are its first reads in r too, and both lists end there or go on with the same key.
 abbrev pub NextAlike
     : Meaning → ReadLists → Meaning → ReadLists → Project → Project → Key → ℕ → Type 0
@@ -42,7 +42,7 @@ NextAlike m l n k p r q i =
     IsProject p → IsProject r → Alike (m p) (n r) (take i (l p q))
     → take (suc i) (l p q) ≡ take (suc i) (k r q)
 
--- where they agree on all reads of q in p, they agree on q
+-- if they agree on all reads of q in p, they agree on q
 abbrev pub ValueAlike : Meaning → ReadLists → Meaning → ReadLists → Project → Project → Key → Type 0
 ValueAlike m l n k p r q =
     IsProject p → IsProject r → 0 < rank q → Alike (m p) (n r) (l p q) → m p q ≡ n r q
@@ -68,7 +68,7 @@ pub record KeyLaws (m : Key → Value) (l : Key → List Key) : Type 0 where
 pub record RunnerLaws (mean : Meaning) (reads : ReadLists) : Type 0 where
   pub inputs : (p : Project) → IsProject p → InputLaws p (mean p) (reads p)
   pub keys : (p : Project) → IsProject p → KeyLaws (mean p) (reads p)
-  -- two projects that agree on what a key reads first read alike, and where they agree on all reads
+  -- two projects that agree on what a key reads first read alike, and if they agree on all reads
   -- of it, they have one value
   pub next : (p r : Project) (q : Key) (i : ℕ) → NextAlike mean reads mean reads p r q i
   pub same : (p r : Project) (q : Key) → ValueAlike mean reads mean reads p r q

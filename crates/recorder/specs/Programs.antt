@@ -16,7 +16,7 @@ pub data Prog : Type 0 where
   Ret : Value → Prog
   Ask : Key → (Value → Prog) → Prog
 
--- ---- what a program means, where m answers
+-- ---- what a program means, if m answers
 
 -- the value that comes out
 unfoldable pub runs : Prog → (Key → Value) → Value

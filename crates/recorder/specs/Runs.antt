@@ -24,7 +24,7 @@ abbrev pub read_fault : RunFault → Option ReadFault
 read_fault (Read f) = Some f
 read_fault OutOfMemory = None
 
--- The fault is the one that the recorder keeps: of a refused read the reader's fault, and where no
+-- The fault is the one that the recorder keeps: of a refused read the reader's fault, and if no
 -- read was refused, that memory ran out.
 abbrev pub TellsFault : {D : Type 0} → Recording D → RunFault → Type 0
 TellsFault r e = read_fault e ≡ fault_of r
@@ -45,7 +45,7 @@ pub record IsRun (mean : Meaning) (reads : ReadLists) (q : Key) {D : Type 0} (r 
   pub unrefused : IfOk result (λ v. r.refused ≡ None)
   pub kind : IfOk result (λ v. IsOfKind q v)
   pub backed : IfOk result (λ v. Backed mean reads q r.told v)
-  -- without one the fault is that of the refused read, or that memory ran out where none was
+  -- without one the fault is that of the refused read, or that memory ran out if none was
   -- refused
   pub fault : IfErr result (λ e. TellsFault r e)
 

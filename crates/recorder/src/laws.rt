@@ -17,7 +17,7 @@ pub fn programs_keep_the_laws()
         → RunnerLaws mean reads }
 {}
 
-/// Where two pairs of meaning and reads are those of programs, and a key has the same program by both, it
+/// If two pairs of meaning and reads are those of programs, and a key has the same program by both, it
 /// reads alike by both.
 pub fn programs_read_alike()
     ensures { (prog_of other : Key → Prog) (m : Meaning) (l : ReadLists) (n : Meaning)
@@ -32,7 +32,7 @@ pub fn tied_programs_are_runs<D: Reader>()
         → Performs prog old result new → IsRun mean reads q new result }
 {}
 
-/// What performs the program of a key is a run of the key, where values and reads are those of programs.
+/// What performs the program of a key is a run of the key, if values and reads are those of programs.
 pub fn programs_are_runs<D: Reader>()
     ensures { (prog_of : Key → Prog) (mean : Meaning) (reads : ReadLists) → Tied prog_of mean reads
         → (q : Key) → 0 < rank q → (old new : Recording D) (result : Result Value RunFault)

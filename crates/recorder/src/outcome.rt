@@ -131,7 +131,7 @@ pub fn record<R: Runner, D: Reader>(
     record_sharing(alloc, runner, profile, key, recorder, None)
 }
 
-/// Runs a key as `record` does. Where its result has the bytes of a known one that is shared, and nothing is hashed.
+/// Runs a key as `record` does. If its result has the bytes of a known one, that is shared, and nothing is hashed.
 pub fn record_sharing<R: Runner, D: Reader>(
     alloc: Global,
     runner: &mut R,

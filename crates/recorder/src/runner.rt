@@ -50,7 +50,7 @@ pub trait Runner {
     fn by_profile(kind: Kind) -> bool
         ensures { result ≡ queries.by_profile kind };
 
-    /// Runs a key that is no input in a profile, with a recorder that hasn't read. Where the key's kind doesn't go by
+    /// Runs a key that is no input in a profile, with a recorder that hasn't read. If the key's kind doesn't go by
     /// the profile, it is a run in every profile. Only if memory runs out for the log, nothing is read and the call
     /// isn't logged.
     fn run<D: Reader>(

@@ -1,4 +1,4 @@
--- Names that are admitted where none in front is the same differ, and the other way round.
+-- If each name is admitted because none in front is the same, all differ, and the other way round.
 use Rattle.std.proofs.Common.{◌≡◌, ℕ, Bool, true, false, List, [], ◌∷◌, ◌++◌, refl, sym, ap, subst, ◌∙◌, inl, inr}
 use Rattle.std.specs.Prelude.{Contains, not}
 use Rattle.std.specs.List.{list_any}

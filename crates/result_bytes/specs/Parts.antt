@@ -1,4 +1,4 @@
--- What a result of some kind has, and nothing where the result is of another kind.
+-- What a result of some kind has, and nothing if the result is of another kind.
 use Rattle.std.specs.Prelude.{ℕ, List, [], Option, None}
 use Rattle.mj_tree.specs.Trees.{Name}
 use Rattle.mj_tree.specs.Trees as trees

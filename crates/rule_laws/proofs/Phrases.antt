@@ -1,4 +1,4 @@
--- A check finds a phrase at fault exactly where its demands say so.
+-- A check finds a phrase at fault exactly if its demands say so.
 use Rattle.std.proofs.Common.{◌≡◌, List, [], ◌∷◌, refl, sym, subst, inl, inr}
 use Rattle.mj_tree.specs.Trees.{Expression, Expressions, Binary, Index, Length, Call, Literal, Boolean, Named, This, NewArray, NewObject, Not, Parenthesized, none, more, Block, If, While, Print, Assign, Store}
 use Rattle.mj_tree.specs.declared.tree.Ty.{Ty}

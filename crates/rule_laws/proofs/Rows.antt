@@ -60,7 +60,7 @@ row_of s (OfStatement (Assign mark x x_mark e)) = two_parts assign
 row_of s (OfStatement (Store mark x x_mark i e)) = three_parts store
 row_of s (OfReturn mark wanted e) = one_part (return_value wanted)
 
--- the verdict that a phrase may have where its demands hold
+-- the verdict that a phrase may have if its demands hold
 abbrev pub kind_of : BodyPhrase → Verdict → Type 0
 kind_of (OfExpression e) = IsOfExpression
 kind_of (OfStatement a) = IsOfStatement

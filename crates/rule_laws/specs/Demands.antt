@@ -95,7 +95,7 @@ operand_code Plus = E304
 operand_code Minus = E304
 operand_code Times = E304
 
--- what a phrase demands where its immediate expressions have these types
+-- what a phrase demands if its immediate expressions have these types
 abbrev pub demands : World → Scope → BodyPhrase → List Ty → Demands
 demands w s (OfExpression (Literal mark value)) [] = (value ≤ most_value, E315) ∷ []
 demands w s (OfExpression (Named mark x)) [] = (IsInScope w s x, E303) ∷ []

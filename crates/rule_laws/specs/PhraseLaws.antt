@@ -26,7 +26,7 @@ pub record FaultLaws : Type 0 where
   pub main : (w : World) (m : Main) (x : Mistake)
       → Contains (main_faults w m) x ↔ FaultInMain w m x
 
--- a phrase is well where all its demands hold; what is well by cases is well throughout
+-- a phrase is well if all its demands hold; what is well by cases is well throughout
 pub record WellLaws : Type 0 where
   pub expression : (w : World) (s : Scope) (e : Expression)
       → ((t : Ty) × HasTypeByCases w s e t) ↔ IsWell w s (OfExpression e)

@@ -2,12 +2,12 @@
 //! the body finds.
 ghost use Rattle.rule_laws.specs.PhraseLaws.{FaultLaws, WellLaws};
 
-/// A phrase is at fault where the first of its demands that fails says so, and a check of a body finds these faults.
+/// A phrase is at fault if the first of its demands that fails says so, and a check of a body finds these faults.
 pub fn fault_laws()
     ensures { FaultLaws }
 {}
 
-/// A phrase is well where all its demands hold, and a statement throughout where each statement in it is.
+/// A phrase is well if all its demands hold, and a statement throughout if each statement in it is.
 pub fn well_laws()
     ensures { WellLaws }
 {}

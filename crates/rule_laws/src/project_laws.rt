@@ -6,7 +6,7 @@ pub fn scope_laws()
     ensures { ScopeLaws }
 {}
 
-/// An expression of a method has one type at most, the one that a check computes, and a phrase is well where a check finds so.
+/// An expression of a method has one type at most, the one that a check computes, and a phrase is well if a check finds so.
 pub fn type_laws()
     ensures { TypeLaws }
 {}

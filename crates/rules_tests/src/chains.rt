@@ -1,5 +1,5 @@
-//! Tests: chains and their ends are those of small programs worked by hand. Which members a class has, which type is
-//! accepted by which, and which class of a name counts are shown by golden tests.
+//! Tests: chains and their ends are those of small programs worked by hand. Golden tests show which members a class
+//! has, which type is accepted by which, and which class of a name counts.
 use crate::made::{name, trees_of};
 use mj_classes::{ClassChain, ClassRef, Declarations, End};
 use mj_tree::FileTree;

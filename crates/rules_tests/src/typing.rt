@@ -135,7 +135,7 @@ impl Asking for Scribe {
 }
 
 /// What is checked, the one file's main or else its first class's first method; how many questions are answered; what is asked; and
-/// the mistakes that are found with their marks, or none where a question is refused.
+/// the mistakes that are found with their marks, or none if a question is refused.
 struct Row {
     texts: &'static [&'static str],
     answers: usize,

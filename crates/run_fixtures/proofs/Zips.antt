@@ -14,7 +14,7 @@ pub zip_more : {A B : Type 0} (R : A → B → Type 0) (xs : List A) (ys : List 
 zip_more R xs ys i d y l m f all one =
     rw (take_more xs i d l, take_more ys i y m, ← f) (all_zipped_more R (take i xs) (take i ys) (get_or xs i d) y all one)
 
--- where all are related, those at a place are
+-- if all are related, those at a place are
 pub zip_at : {A B : Type 0} (R : A → B → Type 0) (xs : List A) (ys : List B) (i : ℕ) (d : A) (y : B) → AllZip R xs ys → i < length xs
     → y ≡ get_or ys i y → R (get_or xs i d) y
 zip_at R [] [] i d y all l f = absurd (omega (arith, l))

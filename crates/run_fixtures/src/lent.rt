@@ -40,7 +40,7 @@ impl<'a, S: Reader> Reader for Lent<'a, S> {
     }
 }
 
-/// The outcome, where there is one and no read was refused.
+/// The outcome, if there is one and no read was refused.
 fn outcome_if<R: Runner>(
     outcome: Result<Outcome<R>, RunFault>,
     is_unrefused: bool,

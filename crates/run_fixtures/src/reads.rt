@@ -56,7 +56,7 @@ fn copy_of(alloc: Global, given: Given) -> Result<Read, Unfit>
 fn is_of(alloc: Global, read: &Read, asked: KeyParts) -> Result<bool, Unfit>
     ensures { IfOk result (λ b. IsTrue b ↔ IsKeyOf asked.entry read.now.key) }
 {
-    // Keys are equal where their kinds, classes and members are.
+    // Keys are equal if their kinds, classes and members are.
     keys_in_order();
     let key = key_of(alloc, asked)?;
     Ok(read.is_of(&key))

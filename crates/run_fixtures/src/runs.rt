@@ -59,7 +59,7 @@ fn outcome_by(
     outcome_over(alloc, profile, &key, list)
 }
 
-/// The outcome of a run of the query in a profile over these answers, where no read is refused.
+/// The outcome of a run of the query in a profile over these answers, if no read is refused.
 pub fn outcome_of(
     alloc: Global,
     profile: Profile,
@@ -124,7 +124,7 @@ pub fn gives_over_lent(alloc: Global, run: Given, reads: &[Given]) -> Result<boo
     }
 }
 
-/// Whether the outcome of a run of the query in a profile over these answers tells the profile.
+/// Whether the outcome of a run of the query in a profile over these answers has that profile.
 pub fn tells_profile(
     alloc: Global,
     profile: Profile,

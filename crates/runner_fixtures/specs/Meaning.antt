@@ -44,7 +44,7 @@ abbrev pub any_main : Project → List (List ℕ) → Bool
 any_main p [] = false
 any_main p (n ∷ ns) = is_main (header_at p n) || any_main p ns
 
--- the type that two parts have together: that of the second, where both have one, and the first has
+-- the type that two parts have together: that of the second, if both have one, and the first has
 -- a signature with it
 abbrev pub meet : Project → Option (List ℕ) → Option (List ℕ) → Option (List ℕ)
 meet p None t = None

@@ -18,7 +18,7 @@ use Rattle.runner_fixtures.specs.Meaning.{header_value, is_main, signature_of, f
 abbrev pub header_steps : List ℕ → (Value → Prog) → Prog
 header_steps f k = Ask (keys.Source f) (λ v. k (Header (header_value (source_in v))))
 
--- Sig(f, g): Header of f, and where f is there, Header of g and that of f again
+-- Sig(f, g): Header of f, and if f is there, Header of g and that of f again
 abbrev pub sig_both : List ℕ → List ℕ → (Value → Prog) → Prog
 sig_both f g k =
     Ask (keys.Header g) (λ w. Ask (keys.Header f)
@@ -44,11 +44,11 @@ class_steps k =
 abbrev pub signed_step : List ℕ → List ℕ → (Option (List ℕ) → Prog) → Prog
 signed_step s t k = Ask (keys.Sig s t) (λ v. k (if is_some (signature_in v) then Some t else None))
 
--- nothing where they are the same
+-- nothing if they are the same
 abbrev pub names_step : List ℕ → List ℕ → (Option (List ℕ) → Prog) → Prog
 names_step s t k = if bytes_eq s t then k (Some s) else signed_step s t k
 
--- two parts: Sig of their types, where both have one and these differ
+-- two parts: Sig of their types, if both have one and these differ
 abbrev pub meet_step : Option (List ℕ) → Option (List ℕ) → (Option (List ℕ) → Prog) → Prog
 meet_step None t k = k None
 meet_step (Some s) None k = k None

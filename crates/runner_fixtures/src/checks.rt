@@ -78,7 +78,7 @@ fn look_at_all<D: Reader>(
     Ok(found)
 }
 
-/// A diagnostic where some file is empty.
+/// A diagnostic if some file is empty.
 pub fn check_class<D: Reader>(alloc: Global, recorder: &mut Recorder<D>) -> Result<Value, RunFault>
     ensures ok { IfOk result (λ v. Goes class_steps recorder.old v recorder.new) }
     ensures err { IfErr result (λ e. GivesUp class_steps recorder.old e recorder.new) }
@@ -90,7 +90,7 @@ pub fn check_class<D: Reader>(alloc: Global, recorder: &mut Recorder<D>) -> Resu
     Ok(Value::CheckClass(faults))
 }
 
-/// A diagnostic where the phrase for two names has no type.
+/// A diagnostic if the phrase for two names has no type.
 pub fn check_body<D: Reader>(
     alloc: Global,
     recorder: &mut Recorder<D>,

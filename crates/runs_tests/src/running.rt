@@ -49,8 +49,8 @@ const BOTH: Given = Given(KeyParts(Kind::Files, "", ""), "0000000000000000020161
 
 const ONE: Given = Given(KeyParts(Kind::Files, "", ""), "0000000000000000010161");
 
-// Headers; signatures; checks of classes, with one diagnostic where some file is empty: E310 at the class; checks of
-// bodies, with one diagnostic where the phrase of both names has no type; kinds that read nothing.
+// Headers; signatures; checks of classes, with one diagnostic if some file is empty: E310 at the class; checks of
+// bodies, with one diagnostic if the phrase of both names has no type; kinds that read nothing.
 const RUNS: &[Run] = &[
     Run {
         gives: HEADER_A,
@@ -185,7 +185,7 @@ fn key_that_is_not_held(rt: HostRuntime) -> Result<(), Fail> {
     Ok(())
 }
 
-// Faults, and the key that is kept with each: none where memory ran out.
+// Faults, and the key that is kept with each: none if memory ran out.
 const REFUSALS: &[(ReadFault, Option<KeyParts>)] = &[
     (ReadFault::Stopped, Some(KeyParts(Kind::Source, "a", ""))),
     (ReadFault::NotHeld, Some(KeyParts(Kind::Source, "a", ""))),

@@ -25,7 +25,7 @@ abbrev pub entry_name : EntryKind → ℕ → List ℕ
 entry_name Chain n = codes "c" ++ four_digits n
 entry_name Session n = codes "s" ++ (four_digits n ++ codes ".mjrg")
 
--- the number that these digits spell, where there is one
+-- the number that these digits spell, if there is one
 abbrev pub IsSpelled : (ℕ → List ℕ) → List ℕ → Option ℕ → Type 0
 IsSpelled spelling text (Some n) = (n ≤ most) × (text ≡ spelling n)
 IsSpelled spelling text None = (n : ℕ) → n ≤ most → text ≢ spelling n

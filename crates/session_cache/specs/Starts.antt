@@ -30,7 +30,7 @@ chain_path dir chain = dir ++ (codes "/" ++ entry_name Chain chain)
 abbrev pub path_of : List ℕ → SessionPlace → List ℕ
 path_of dir p = chain_path dir p.chain ++ (codes "/" ++ entry_name Session p.number)
 
--- the place of the first session of the next chain, where there is one
+-- the place of the first session of the next chain, if there is one
 abbrev pub next_chain : ℕ → Option SessionPlace
 next_chain chain =
     if nat_lt chain most then Some (record { chain = chain + 1; number = 0 }) else None
@@ -74,13 +74,13 @@ IsLastChain NoChain = Unit {0}
 IsLastChain (NoSession chain) = chain ≤ most
 IsLastChain (File last read) = IsSessionPlace last
 
--- where a file in front of the last one ends the chain, it stands at a place
+-- if a file in front of the last one ends the chain, it stands at a place
 abbrev pub IsChainFront : ChainFront → Type 0
 IsChainFront (Read past) = Unit {0}
 IsChainFront (Ended place read) = IsSessionPlace place
 
--- The place, where there is one, is that of the next session, for which the previous one leaves
--- room. What is noted is noted of a place, and where there is none for the session, of one in the
+-- The place, if there is one, is that of the next session, for which the previous one leaves
+-- room. What is noted is noted of a place, and if there is none for the session, of one in the
 -- last chain.
 pub record IsStart (start : Start) : Type 0 where
   pub place : IfSome start.place IsSessionPlace

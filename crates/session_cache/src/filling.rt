@@ -13,7 +13,7 @@ use std::io;
 use std::io::{BufWriter, ErrorKind, Write};
 use std::thread::Threads;
 
-/// Hands the session's file to the writer, and the last of it out of the buffer. Where there is more than one worker another
+/// Hands the session's file to the writer, and the last of it out of the buffer. If there is more than one worker, another
 /// thread computes the digest at its end meanwhile. Behind a failure the writer gets no more bytes.
 #[tactic(auto, using(crate::proofs::Appending::put_then_kept))]
 pub fn write_to<W: Write + Drop, T: Threads>(
@@ -103,7 +103,7 @@ impl<F: Write> Write for NewFile<F> {
     }
 }
 
-/// One write, made once more where a signal interrupts it.
+/// One write, made once more if a signal interrupts it.
 fn write_once_more<F: Write>(file: &mut F, buf: &[u8]) -> io::Result<usize>
     ensures { WritesAtMost result buf.now }
 {

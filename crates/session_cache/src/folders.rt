@@ -20,7 +20,7 @@ use std::{fs, io};
 const BUFFER: usize = 65536;
 
 /// Reads the last file of the last chain in the cache of this folder, over those in front of it that it is taken from. A
-/// folder that doesn't exist is an empty cache. An empty word names no folder, and can't be read. So many workers read, each
+/// folder that doesn't exist is an empty cache. An empty path names no folder, and can't be read. So many workers read, each
 /// in a thread of its own.
 pub fn find_last<R: Files + AllocGlobal, T: Threads + Sync>(
     rt: &R,
@@ -76,7 +76,7 @@ fn last_in<R: Files + AllocGlobal, T: Threads + Sync>(
     }
 }
 
-/// Reads the last file of a chain, which stands at this place. Where it is of form 2, those in front of it are read first.
+/// Reads the last file of a chain, which stands at this place. If it is of form 2, those in front of it are read first.
 fn read_last<R: Files + AllocGlobal, T: Threads + Sync>(
     rt: &R,
     threads: &T,
@@ -127,14 +127,14 @@ fn is_of_form_2(bytes: &[u8]) -> bool {
 /// What was read of the files in front of the last one.
 #[derive(Drop)]
 pub enum ChainFront {
-    /// The session that the last one is read over, where there is one.
+    /// The session that the last one is read over, if there is one.
     Read(Option<Session>),
     /// The file at this place, which no session follows, with this result.
     Ended(SessionPlace, Result<Session, FileFault>),
 }
 
 /// The index of the last of these sessions of a chain whose file isn't of form 2, and stands alone therefore; the first
-/// where there is none.
+/// if there is none.
 fn first_to_read<R: Files + AllocGlobal>(
     rt: &R,
     dir: &str,
@@ -162,7 +162,7 @@ fn first_to_read<R: Files + AllocGlobal>(
     Ok(first)
 }
 
-/// The form of the file at this place, by its first bytes; none where they are no start of a file.
+/// The form of the file at this place, by its first bytes; none if they are no start of a file.
 fn form_at<R: Files + AllocGlobal>(
     rt: &R,
     dir: &str,
@@ -180,7 +180,7 @@ fn form_at<R: Files + AllocGlobal>(
     }
 }
 
-/// The first bytes of a file, where there are so many.
+/// The first bytes of a file, if there are so many.
 fn start_in<R: Files + AllocGlobal>(rt: &R, path: &str) -> io::Result<Option<[u8; 6]>> {
     let mut file = fs::File::open(rt, path)?;
     let mut start = [0; 6];
@@ -272,7 +272,7 @@ fn unreadable(alloc: Global, path: &str, error: &io::Error) -> CacheReadFault
     }
 }
 
-/// Writes the session's file at this place, where there is none yet, and makes the folders that are missing. Where there is
+/// Writes the session's file at this place, if there is none yet, and makes the folders that are missing. If there is
 /// more than one worker another thread computes the digest at its end meanwhile.
 pub fn write_file<R: Files + AllocGlobal, T: Threads>(
     rt: &R,

@@ -84,7 +84,7 @@ fn greater(highest: Option<u32>, number: u32) -> u32
     }
 }
 
-/// The number in this name, or `None` where it is no such name.
+/// The number in this name, or `None` if it is no such name.
 fn number_in(what: EntryKind, name: &[u8]) -> Option<u32>
     ensures { IsSpelled (entry_name what) name.now result }
 {

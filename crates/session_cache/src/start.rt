@@ -51,7 +51,7 @@ pub enum LastChain {
     File(SessionPlace, Result<Session, FileFault>),
 }
 
-/// Where the next session of a cache begins, by what was read of its last chain: in that chain, in the first one where
+/// Where the next session of a cache begins, by what was read of its last chain: in that chain, in the first one if
 /// there is none, or in the next one behind a file that can't be continued.
 pub fn start_behind(alloc: Global, last: LastChain) -> Result<Start, AllocError>
     requires { IsLastChain last }

@@ -73,7 +73,7 @@ run_is was now crossing q had red crosses mark old first kind Gone is = absurd i
 run_is was now crossing q had red crosses mark old first kind Same is = absurd is
 run_is was now crossing q had red crosses mark old first kind Green is = absurd is
 
--- ---- what is told
+-- ---- what is said
 
 none_red : (now : Option Entry) → not (have_same_print None now) ≡ true
 none_red now = refl
@@ -83,7 +83,7 @@ gone_red None = refl
 gone_red (Some had) = refl
 
 module _ (was : Option SessionValue) (now : SessionValue) (session : IsSession now) (crossing : List Kind) (q : Key) where
-  -- a key is marked as an input where it is one
+  -- a key is marked as an input if it is one
   marked : (mark : Mark) → mark_at now q ≡ Some mark → is_input_mark mark ≡ is_input (kind_of q)
   marked mark is =
       let r = some_map (λ (x : Entry). x.mark) (entry_at now q) mark is in

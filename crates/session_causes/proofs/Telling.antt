@@ -1,4 +1,4 @@
--- What is told of keys in their order.
+-- What is said of keys in their order.
 use Rattle.std.proofs.Common.{◌≡◌, ◌∙◌, inl, inr, List, [], ◌∷◌, ◌++◌, ℕ, zero, suc, ◌+◌, ◌≤◌, Option, Some, None, true, false, length, get_or, map, take, option_map, refl, sym, ap, subst, arith}
 use Rattle.std.specs.Prelude.{◌<◌, Contains, IsSome, if◌then◌else◌}
 use Rattle.std.specs.List.{AllByRecursion}
@@ -18,7 +18,7 @@ use Rattle.session_causes.specs.Causes.{AreWhys, IsOfEither, IsRightWhy, IsExpla
 use Rattle.session_causes.specs.Parts.{AreKeysOfEither, is_explained, explained_part}
 use Rattle.session_causes.proofs.CauseRules.{told_is, untold_is}
 
--- a why for each of the keys that is told of
+-- a why for each of the keys of which something is said
 pub data IsTelling (was : Option SessionValue) (now : SessionValue) (crossing : List Kind) : List Key → List Why → Type 0 where
   none : IsTelling was now crossing [] []
   untold : (q : Key) (keys : List Key) (whys : List Why) → (IsExplained was now q → ⊥) → IsTelling was now crossing keys whys → IsTelling was now crossing (q ∷ keys) whys

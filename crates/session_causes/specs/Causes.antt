@@ -31,7 +31,7 @@ is_red was now q = not (have_same_print (past_entry was q) (entry_at now q))
 abbrev pub first_red : Option SessionValue → SessionValue → Entry → Option Key
 first_red was now had = find (is_red was now) had.reads
 
--- how the key became done in the session, where it has a record of it
+-- how the key became done in the session, if it has a record of it
 abbrev pub mark_at : SessionValue → Key → Option Mark
 mark_at now q = option_map (λ r. r.mark) (entry_at now q)
 

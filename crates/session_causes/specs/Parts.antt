@@ -50,7 +50,7 @@ explained_part why = if is_explained (kind_of why.key.now) why.cause then why �
 
 -- ---- keys
 
--- the records of the session before, where there is one
+-- the records of the session before, if there is one
 abbrev pub records_in : Option SessionValue → List RecordValue
 records_in None = []
 records_in (Some was) = was.records
@@ -72,7 +72,7 @@ PassesLesserKey had key Less step = PassesKey had 1 0 step
 PassesLesserKey had key Equal step = PassesKey key 1 1 step
 PassesLesserKey had key Greater step = PassesKey key 0 1 step
 
--- the next step over the keys that stand in front, and none where none does
+-- the next step over the keys that stand in front, and none if none does
 abbrev pub IsMergeStep : Option Key → Option Key → Option MergeStep → Type 0
 IsMergeStep None None step = step ≡ None
 IsMergeStep (Some had) None step = MatchOption step ⊥ (PassesKey had 1 0)

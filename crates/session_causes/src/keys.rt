@@ -32,7 +32,7 @@ pub(crate) fn keys_of_either<'a>(
     Ok(keys)
 }
 
-/// The records of the session before, and none where there is none.
+/// The records of the session before, and none if there is none.
 fn records_of(past: Option<&Session>) -> &[Record]
     ensures value { result.now ≡ records_in (option_copied past.entry) }
     ensures session { IfSome (option_copied past.entry) IsSession }
@@ -51,7 +51,7 @@ struct MergeStep<'a> {
     now: usize,
 }
 
-/// The next step over the records from these indices on, or `None` where none is left.
+/// The next step over the records from these indices on, or `None` if none is left.
 fn next_step<'a>(
     before: &'a [Record],
     i: usize,

@@ -31,7 +31,7 @@ pub fn why_text(
     Ok(text)
 }
 
-/// Why the query of the record at an index was executed, or what else became of it; where it was executed for a key that
+/// Why the query of the record at an index was executed, or what else became of it; if it was executed for a key that
 /// is red, the same of that key, and so on.
 pub fn causes_text(
     alloc: Global,

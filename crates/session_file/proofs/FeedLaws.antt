@@ -140,7 +140,7 @@ bytes_took {old} {new} {g} {h} {part} n moved len = record { part = part; moved 
 pub bytes_stops : (old : List ℕ → Type 0) (n : ℕ) (stop : FeedFault) → FillsNot old n stop → StopsAs old stop (slice_at n)
 bytes_stops old n stop h = stops_short stop h (λ s. record { breach = λ bytes has. bytes_end n bytes (s.short bytes has) })
 
--- where some of them were taken before
+-- if some of them were taken before
 pub bytes_stop_behind : {old mid : List ℕ → Type 0} {g h : BodyHash} {part : List ℕ} (n m : ℕ) (stop : FeedFault) → Moved old mid g h part → length part + m ≤ n → FillsNot mid m stop → StopsAs old stop (slice_at n)
 bytes_stop_behind {old} {mid} {g} {h} {part} n m stop moved le f =
     stops_short stop f (λ s. record {

@@ -61,7 +61,7 @@ told_version forms.One profiles.Two = refl
 told_version forms.Two profiles.One = refl
 told_version forms.Two profiles.Two = refl
 
--- the terms that the first bytes of a file tell
+-- the terms that the first bytes of a file give
 pub terms_told : (bytes : List ℕ) (terms : Terms) (n : ℕ) → n ≡ big_number 2 (get_or bytes 4 0 ∷ get_or bytes 5 0 ∷ []) → bytes ≡ start terms → terms_with n ≡ Some terms
 terms_told bytes terms n told is =
     let version = told ∙ ap (λ (xs : List ℕ). big_number 2 (get_or xs 4 0 ∷ get_or xs 5 0 ∷ [])) is ∙ told_version terms.form terms.profile in
@@ -232,7 +232,7 @@ front_again past s after h taken =
     ∙ bind_is (body_after past (body_bytes s ++ rest)) _ (s, rest) (body_again past s rest h taken)
     ∙ bind_is (end_at (take (length (body_bytes s ++ rest) - length rest) (body_bytes s ++ rest)) rest) _ (tt, after) (ap (λ (xs : List ℕ). end_at xs rest) front ∙ end_again (body_bytes s) after)
 
--- ---- what is read where nothing stands behind it
+-- ---- what is read if nothing stands behind it
 
 pub file_is_read : (past : Option SessionValue) (bytes : List ℕ) (s : SessionValue) (rest : List ℕ) → front_after past bytes ≡ Ok (s, rest) → rest ≡ [] → file_after past bytes ≡ Ok s
 unfolding file_after

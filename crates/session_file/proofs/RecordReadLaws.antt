@@ -212,7 +212,7 @@ result_again i kind v rest h =
 
 -- ---- what a record ends with
 
--- where a record ends with its fingerprint, this is the result that the previous session has of its key
+-- if a record ends with its fingerprint, this is the result that the previous session has of its key
 abbrev pub IsTold : OriginValue → Key → Mark → Value → Type 0
 IsTold origin key mark v =
     ends_with_print origin.form mark ≡ true → past_value origin.past key ≡ Some v

@@ -206,7 +206,7 @@ rest_took origin front item edges v p q = record {
 }
     -- ---- a record
 
--- a key and its mark, where these may follow the records in front
+-- a key and its mark, if these may follow the records in front
 pub placed_halts : (a : List ℕ → Type 0) (front : List RecordValue) (stop : FeedFault) → StopsAs a stop (item_at (length front)) → StopsAs a stop (placed_item_at front)
 unfolding placed_item_at
 placed_halts a front stop f = stops_by stop f (λ fault s. record { breach = λ bytes has. rw (s.breach bytes has) refl })

@@ -39,11 +39,11 @@ pub record Left (new : List ℕ → Type 0) (part bytes : List ℕ) : Type 0 whe
   pub whole : bytes ≡ part ++ rest
   pub holds : new rest
 
--- the part was taken from what was held, where that is told
+-- the part was taken from what was held, if that is known
 pub record Given (old new : List ℕ → Type 0) (part : List ℕ) : Type 0 where
   pub left : (bytes : List ℕ) → old bytes → Left new part bytes
 
--- what was held, where that is told, is shorter than this many bytes
+-- what was held, if that is known, is shorter than this many bytes
 pub record IsShorter (old : List ℕ → Type 0) (count : ℕ) : Type 0 where
   pub short : (bytes : List ℕ) → old bytes → length bytes < count
 
@@ -77,7 +77,7 @@ pub record Took {A : Type 0} (old new : List ℕ → Type 0) (hash_old hash_new 
   pub moved : Moved old new hash_old hash_new part
   pub reads : (rest : List ℕ) → step (part ++ rest) ≡ Ok (a, rest)
 
--- what was held, where that is told, has the fault
+-- what was held, if that is known, has the fault
 pub record HasBreach {A : Type 0} (old : List ℕ → Type 0) (step : List ℕ → Result A FileFault)
     (fault : FileFault) : Type 0 where
   pub breach : (bytes : List ℕ) → old bytes → step bytes ≡ Err fault

@@ -19,7 +19,7 @@ abbrev pub name_with : List ℕ → Option (List ℕ)
 name_with [] = None
 name_with (b ∷ bytes) = Some (b ∷ bytes)
 
--- a name is there exactly where the kind has one
+-- a name is there exactly if the kind has one
 abbrev pub are_names : Kind → Option (List ℕ) → Option (List ℕ) → Bool
 are_names kind class member =
     beq (is_some class) (has_class kind) && beq (is_some member) (has_member kind)
@@ -34,7 +34,7 @@ key_of_some None class member = None
 key_of_some (Some kind) class member =
     if is_utf8 class && is_utf8 member then key_of_kind kind class member else None
 
--- the key of the kind of this number with these names, where no name is missing or one too many,
+-- the key of the kind of this number with these names, if no name is missing or one too many,
 -- and each is a text
 unfoldable pub key_with : ℕ → List ℕ → List ℕ → Option Key
 key_with n class member = key_of_some (kind_with n) class member

@@ -96,13 +96,13 @@ abbrev pub is_behind : Option RecordValue → Key → Bool
 is_behind None key = true
 is_behind (Some last) key = is_lt (key_cmp last.key key)
 
--- the key is greater than the one before, and its mark is Input exactly where it is an input
+-- the key is greater than the one before, and its mark is Input exactly if it is an input
 unfoldable pub check_place : List RecordValue → ItemValue → Result (Unit {0}) FileFault
 check_place front item = do
   order ← tested (is_behind (slice_get front (length front - 1)) item.key) (KeyOrder (length front))
   tested (beq (is_input_mark item.mark) (is_input (kind_of item.key))) (InputKind (length front))
 
--- a key and its mark, where these may follow the records in front
+-- a key and its mark, if these may follow the records in front
 unfoldable pub placed_item_at : List RecordValue → Parser ItemValue
 placed_item_at front bytes = do
   item ← item_at (length front) bytes
@@ -132,7 +132,7 @@ edge_list_at front key bytes = do
   n ← or_truncated (eight_at bytes)
   edges_from front key [] n.0 n.1
 
--- the value, where it has this fingerprint
+-- the value, if it has this fingerprint
 abbrev pub with_print : List ℕ → Value → Option Value
 with_print print v = if bytes_eq print (print_of v) then Some v else None
 
@@ -148,7 +148,7 @@ result_at i kind bytes = do
   text ← slice_at n.0 n.1
   there (BadResult i) (value_with_print print.0 (decoding kind text.0)) text.1
 
--- What records are read over: the previous session, where there is one, and the form of the file.
+-- What records are read over: the previous session, if there is one, and the form of the file.
 pub record OriginValue : Type 0 where
   pub past : Option SessionValue
   pub form : Form
@@ -281,7 +281,7 @@ file_after past bytes = do
   none ← tested (length s.1 == 0) Trailing
   Ok s.0
 
--- the same where there is no previous session
+-- the same if there is no previous session
 abbrev pub front_at : Parser SessionValue
 front_at = front_after None
 

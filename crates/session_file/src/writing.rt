@@ -18,7 +18,7 @@ use ordered_names::Name;
 use sessions::{Form, Mark, Record, Session, Terms};
 use std::thread::{Threads, join};
 
-/// Appends the session's file; where the sink fails it has a beginning of the file. Only the sink takes memory.
+/// Appends the session's file; if the sink fails it has a beginning of the file. Only the sink takes memory.
 pub fn write<W: Sink>(session: &Session, sink: &mut W) -> Result<(), FileFault>
     ensures holds { Puts (W.holds sink.old) (W.holds sink.new) (file_of session.now) result }
     ensures device { IfErr result (λ fault. fault ≡ FileFault.Device) }
@@ -32,7 +32,7 @@ pub fn write<W: Sink>(session: &Session, sink: &mut W) -> Result<(), FileFault>
 }
 
 /// Appends the session's file as `write` does, while another thread computes the digest at its end. Only the sink and that
-/// thread take memory; where none can be made, this thread computes the digest behind the rest.
+/// thread take memory; if none can be made, this thread computes the digest behind the rest.
 pub fn write_by_two<W: Sink + Drop, T: Threads>(
     threads: &T,
     session: &Session,

@@ -38,7 +38,7 @@ mark_again Input = Input
 mark_again Executed = Green
 mark_again Green = Green
 
--- the same record, which is green where it is no input
+-- the same record, which is green if it is no input
 pub record IsTakenOverRecord (before after : Kept) : Type 0 where
   pub key : after.key ≡ before.key
   pub edges : after.edges ≡ before.edges
@@ -46,7 +46,7 @@ pub record IsTakenOverRecord (before after : Kept) : Type 0 where
   pub mark : after.mark ≡ mark_again before.mark
 
 -- the session of these terms behind the first one of the records, with the same records, which are
--- green where they are no inputs
+-- green if they are no inputs
 pub record IsSecondOf (terms : Terms) (kept : List Kept) (s : SessionValue) : Type 0 where
   pub first : SessionValue
   pub first_told : IsFirstOf kept first

@@ -27,7 +27,7 @@ pub fn write_to<W: Sink>(
     ensures device { IfOk result (λ ending. IfErr ending (λ fault. fault ≡ Device)) }
     ensures counted { IfOk result (λ ending.
         CountsFailures ending (W.failed sink.old) (W.failed sink.new)) }
-    // Nothing is written where the records make no session.
+    // Nothing is written if the records make no session.
     ensures unfit { IfErr result (λ _. sink.new ≡ sink.old) }
 {
     let session = session_of(alloc, 0, [0; 32], kept)?;
@@ -78,7 +78,7 @@ pub fn digest_of(
     Ok(digest(&session))
 }
 
-/// Why the bytes are no file of a session, or `None` where they are one.
+/// Why the bytes are no file of a session, or `None` if they are one.
 pub fn file_fault_of(alloc: Global, bytes: &[u8]) -> Option<FileFault>
     ensures { MatchOption result ((s : SessionValue) × IsFileOf bytes.now s)
         (λ fault. IsUnlessMemory (Err fault) (file_at bytes.now)) }

@@ -89,7 +89,7 @@ fn taken_over(kept: &Kept) -> Kept
     Kept { mark, ..*kept }
 }
 
-/// Why the bytes are no file of a session over the first one of these records, or `None` where they are one.
+/// Why the bytes are no file of a session over the first one of these records, or `None` if they are one.
 pub fn fault_over(alloc: Global, kept: &[Kept], bytes: &[u8]) -> Result<Option<FileFault>, Unfit>
     ensures { IfOk result (λ fault. (first : SessionValue) × IsFirstOf kept.now first
         × MatchOption fault ((s : SessionValue) × IsFileOver first bytes.now s)
@@ -99,7 +99,7 @@ pub fn fault_over(alloc: Global, kept: &[Kept], bytes: &[u8]) -> Result<Option<F
     Ok(fault_behind(alloc, &first, bytes))
 }
 
-/// Why the bytes are no file of a session over this one, or `None` where they are one.
+/// Why the bytes are no file of a session over this one, or `None` if they are one.
 fn fault_behind(alloc: Global, first: &Session, bytes: &[u8]) -> Option<FileFault>
     ensures { MatchOption result ((s : SessionValue) × IsFileOver first.now bytes.now s)
         (λ fault. IsUnlessMemory (Err fault) (file_after (Some first.now) bytes.now)) }

@@ -2,7 +2,7 @@
 
 use answer_fixtures::Unfit;
 
-/// Makes it, and once more if that is refused. Where each allocation is refused in turn, at most one is.
+/// Makes it, and once more if that is refused: each run of a test is refused at most one allocation.
 pub fn twice<T, F: Fn() -> Result<T, Unfit>>(make: &F) -> Result<T, Unfit>
     requires { F.IsAlwaysCallable make.now }
     ensures { F.post make.now result }

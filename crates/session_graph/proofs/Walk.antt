@@ -98,7 +98,7 @@ pub walk_ends : (records : List RecordValue) (root : ℕ) (flags : List Bool) �
 walk_ends records root flags h =
     record { each = h.each; exact = λ i lt. (h.only i, all_flagged records root flags h i) }
 
--- a step of the walk in the code, where the flags are lent as a slice
+-- a step of the walk in the code, whose flags are lent as a slice
 pub walk_step : (records : List RecordValue) (root k : ℕ) (flags : List Bool) (new : List Bool) (es : List ℕ) (n : ℕ) → IsWalked records root (k + 1) flags
     → k < length records → es ≡ edges_of_record records k → AllByRecursion (λ e. e < k) es → IsSet flags k → new ≡ with_flags flags es → n ≡ length new
     → IsWalked records root k (take n (new ++ drop (length new) flags))

@@ -18,7 +18,7 @@ mark_shade marks.Input = Input
 mark_shade marks.Executed = Executed
 mark_shade marks.Green = Green
 
--- the mark's, where the session before has the key with the same fingerprint, and else red
+-- the mark's, if the session before has the key with the same fingerprint, and else red
 abbrev pub shade_of : Option SessionValue → RecordValue → Shade
 shade_of past r =
     if has_print (past_entry past r.key) (print_of r.value) then mark_shade r.mark else Red

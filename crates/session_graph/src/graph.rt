@@ -11,7 +11,7 @@ use std::alloc::{AllocError, Global};
 use std::fmt::Write;
 
 /// The graph of a session as Graphviz reads it: for each record a node, and an edge to each that it has read. The colours
-/// tell what has changed since the session before, where there is one. With the index of a record it is the graph of just
+/// show what has changed since the session before, if there is one. With the index of a record it is the graph of just
 /// what lies within that record: it, what it has read, what that has read, and so on.
 pub fn dot_text(
     alloc: Global,

@@ -67,7 +67,7 @@ fn mark_shade(mark: Mark) -> Shade
     }
 }
 
-/// Whether the session before, where there is one, has the key with the same fingerprint.
+/// Whether the session before, if there is one, has the key with the same fingerprint.
 fn is_as_before(finder: &mut Finder, past: Option<&Session>, item: &Record) -> bool
     ensures { result
         ≡ has_print (past_entry (option_copied past.entry) item.now.key) (print_of item.now.value) }

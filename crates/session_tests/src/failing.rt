@@ -57,7 +57,7 @@ fn is_no_file(alloc: Global, bytes: &[u8]) -> bool {
     file_fault_of(alloc, bytes) == Some(fault)
 }
 
-/// Whether the file is written whole to the sink that is emptied before, where it doesn't go on to fail.
+/// Whether the file is written whole to the sink that is emptied before, if it doesn't go on to fail.
 fn is_written_again(alloc: Global, sink: &mut FailingSink, file: &[u8], goes_on: bool) -> bool {
     sink.empty();
     let written = write_to(alloc, first(), sink);
@@ -100,7 +100,7 @@ fn calls_to_read(alloc: Global, file: &[u8], piece: usize) -> usize {
     }
 }
 
-/// Whether the file that the feed holds again is read, where the feed doesn't go on to fail.
+/// Whether the file that the feed holds again is read, if the feed doesn't go on to fail.
 fn is_read_again(alloc: Global, feed: &mut FailingFeed, digest: [u8; 32], goes_on: bool) -> bool {
     let taken = digest_of_taken(alloc, feed);
     if goes_on {

@@ -14,7 +14,7 @@ use std::alloc::Global;
 use std::test::*;
 
 /// The terms of a second session, whose records that aren't inputs are green; the length of its file, and its SHA-256 by
-/// another program; and why it is no file where there is no session before.
+/// another program; and why it is no file if there is no session before.
 struct Formed {
     terms: Terms,
     bytes: usize,

@@ -15,7 +15,7 @@ mark_word Input = codes "Input"
 mark_word Executed = codes "Executed"
 mark_word Green = codes "Green"
 
--- `-` stands where there is no name
+-- `-` stands if there is no name
 abbrev pub name_word : Option (List ℕ) → List ℕ
 name_word None = codes "-"
 name_word (Some name) = name
@@ -26,7 +26,7 @@ key_text key =
     kind_word (kind_of key) ++ codes " " ++ name_word (class_of key) ++ codes " "
     ++ name_word (member_of key)
 
--- a space and the name, where there is one
+-- a space and the name, if there is one
 abbrev pub and_name : Option (List ℕ) → List ℕ
 and_name None = []
 and_name (Some name) = codes " " ++ name

@@ -20,7 +20,7 @@ pub fn write_key_words(text: &mut String, key: &Key) -> Result<(), AllocError>
     write_name(text, key.member())
 }
 
-/// Adds a space and the name, where there is one.
+/// Adds a space and the name, if there is one.
 fn write_name(text: &mut String, name: Option<&Name>) -> Result<(), AllocError>
     ensures { OnOk result
         (string_bytes text.new ≡ string_bytes text.old ++ and_name (option_copied name.entry)) }
@@ -34,7 +34,7 @@ fn write_name(text: &mut String, name: Option<&Name>) -> Result<(), AllocError>
     }
 }
 
-/// The index of the first record of a session whose key these words name, or `None` where there is none.
+/// The index of the first record of a session whose key these words name, or `None` if there is none.
 pub fn record_named(
     alloc: Global,
     session: &Session,

@@ -141,7 +141,7 @@ module _ (s : SessionValue) (session : IsSession s) (q : Key) (r : Entry) (has :
   same_record_key : found.0.key ≡ q
   same_record_key = test_same found.0.key q (found_yes (λ x. is_eq (key_cmp x.key q)) s.records found.0 found.1)
 
-  -- the record that tells it
+  -- the record of this entry
   pub has_record : (x : RecordValue) × (i : ℕ) × (i < length s.records) × (get_or s.records i x ≡ x) × (entry_of s.records x ≡ r)
   has_record = (found.0, place.0, place.1, place.2, found.2)
 

@@ -48,7 +48,7 @@ most_number = 9999
 abbrev pub IsAbove : List RecordValue → Key → Type 0
 IsAbove front key = AllByRecursion (λ r. key_cmp r.key key ≡ Less) front
 
--- the mark is Input exactly where the key is one of an input
+-- the mark is Input exactly if the key is one of an input
 abbrev pub IsMarked : RecordValue → Type 0
 IsMarked r = is_input_mark r.mark ≡ is_input (kind_of r.key)
 
@@ -93,7 +93,7 @@ pub record Entry : Type 0 where
   pub reads : List Key
   pub value : Value
 
--- what a record tells among these
+-- what a record says among these
 abbrev pub entry_of : List RecordValue → RecordValue → Entry
 entry_of records r =
     record { key = r.key; mark = r.mark; reads = map (key_at records) r.edges; value = r.value }
@@ -101,7 +101,7 @@ entry_of records r =
 abbrev pub entries : SessionValue → List Entry
 entries s = map (entry_of s.records) s.records
 
--- what a session says about a key, where it has a record of it
+-- what a session says about a key, if it has a record of it
 abbrev pub entry_at : SessionValue → Key → Option Entry
 entry_at s key = find (λ e. is_eq (key_cmp e.key key)) (entries s)
 
@@ -109,7 +109,7 @@ entry_at s key = find (λ e. is_eq (key_cmp e.key key)) (entries s)
 abbrev pub AreInside : List RecordValue → List ℕ → Type 0
 AreInside records edges = AllByRecursion (λ e. e < length records) edges
 
--- what a previous session, where there is one, says about a key
+-- what a previous session, if there is one, says about a key
 abbrev pub past_entry : Option SessionValue → Key → Option Entry
 past_entry None key = None
 past_entry (Some s) key = entry_at s key

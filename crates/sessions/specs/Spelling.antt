@@ -29,7 +29,7 @@ key_bytes key = number_of (kind_of key) ∷ (name (class_text key) ++ name (memb
 unfoldable pub result_bytes : Value → List ℕ
 result_bytes v = print_of v ++ (eight (length (canon v)) ++ canon v)
 
--- what a record ends with: its result, of which form 2 writes just the fingerprint where it is green
+-- what a record ends with: its result, of which form 2 writes just the fingerprint if it is green
 unfoldable pub told_bytes : Form → Mark → Value → List ℕ
 told_bytes form mark v = if ends_with_print form mark then print_of v else result_bytes v
 

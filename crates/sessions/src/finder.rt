@@ -6,7 +6,7 @@ use crate::record::Record;
 use crate::session::Session;
 use item_ids::{Key, Kind};
 
-/// Finds the records of keys, in one session or another. Where the keys of a kind are asked for in order it needs no
+/// Finds the records of keys, in one session or another. If the keys of a kind are asked for in order it needs no
 /// search: it looks first behind the last record of that kind that it found. Contracts see nothing of that.
 #[derive(Drop)]
 pub struct Finder {
@@ -21,7 +21,7 @@ impl Finder {
         }
     }
 
-    /// The record of a key in a session, with its index, or `None` where there is none.
+    /// The record of a key in a session, with its index, or `None` if there is none.
     pub fn find<'a>(&mut self, session: &'a Session, key: &Key) -> Option<(usize, &'a Record)>
         ensures found { MatchOption result (entry_at session.now key.now ≡ None)
             (λ r. entry_at session.now key.now ≡ Some (entry_of session.now.records r.1.now)) }

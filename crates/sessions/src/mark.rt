@@ -25,7 +25,7 @@ impl Mark {
         }
     }
 
-    /// The mark that has this number, or `None` where none has.
+    /// The mark that has this number, or `None` if none has.
     pub fn from_number(number: u8) -> Option<Mark>
         ensures found { IfSome result (λ mark. mark_number mark ≡ number) }
         ensures known { IsSome result ↔ (number < 3) }

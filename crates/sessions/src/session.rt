@@ -16,7 +16,7 @@ use std::marker::Model;
 use std::sync::Arc;
 
 /// A session: its terms, its number in its chain, its link, which is the SHA-256 of the previous session's file (zeros
-/// where there is none), and its records. Where the SHA-256 of its own file is known, it keeps that too; contracts don't
+/// if there is none), and its records. If the SHA-256 of its own file is known, it keeps that too; contracts don't
 /// see it.
 pub struct Session {
     terms: Terms,
@@ -162,7 +162,7 @@ impl Session {
         self
     }
 
-    /// The SHA-256 of the session's file, where it is kept.
+    /// The SHA-256 of the session's file, if it is kept.
     pub fn known_digest(&self) -> Option<[u8; 32]>
         ensures { IfSome result (λ digest. digest ≡ digest_of self.now) }
     {
@@ -198,7 +198,7 @@ impl Session {
         self.records.as_slice()
     }
 
-    /// The index of the record of a key, or `None` where there is none. It is looked for at `near` first.
+    /// The index of the record of a key, or `None` if there is none. It is looked for at `near` first.
     pub(crate) fn index_near(&self, near: usize, key: &Key) -> Option<usize>
         ensures within { IfSome result (λ i. i < length self.now.records) }
         ensures found { IfSome result (HoldsAt (λ r. r.key ≡ key.now) self.now.records) }
@@ -211,7 +211,7 @@ impl Session {
         place_of(records, key)
     }
 
-    /// The record of a key, or `None` where there is none.
+    /// The record of a key, or `None` if there is none.
     pub fn find(&self, key: &Key) -> Option<&Record>
         ensures found { MatchOption result (entry_at self.now key.now ≡ None)
             (λ r. entry_at self.now key.now ≡ Some (entry_of self.now.records r.now)) }
@@ -246,7 +246,7 @@ fn has_mark(item: &Record, mark: Mark) -> bool
     item.mark().number() == mark.number()
 }
 
-/// One more owner of a session, where there is one.
+/// One more owner of a session, if there is one.
 pub fn share(session: &Option<Arc<Session>>) -> Result<Option<Arc<Session>>, AllocError>
     ensures { IfOk result (λ shared. session_in shared ≡ session_in session.now) }
 {

@@ -68,7 +68,7 @@ impl Terms {
         }
     }
 
-    /// The terms of a file of this version, or `None` where there is no such version.
+    /// The terms of a file of this version, or `None` if there is no such version.
     #[tactic(auto, unfolding(crate::specs::Terms::terms_with))]
     pub fn of_version(version: u16) -> Option<Terms>
         ensures { result ≡ terms_with version }

@@ -1,4 +1,4 @@
--- What was told of keys that are done, while the table goes on.
+-- Results that were given of keys that are done, while the table goes on.
 use Rattle.std.proofs.Common.{◌≡◌, ◌⊎◌, inl, inr, ℕ, List, [], ◌∷◌, ◌++◌, sym, subst, Contains, refl, arith}
 use Rattle.std.specs.Prelude.{Result, Ok, Err, IfOk, IfErr}
 use Rattle.std.specs.List.{AllByRecursion}
@@ -25,7 +25,7 @@ use Rattle.known_list.proofs.Beginnings.{prefix_contains}
 use Rattle.shared_table.specs.Told.{is_told, IsFound}
 use Rattle.shared_table.specs.Given.{IsOwnAnswer}
 
--- ---- what was told still stands after each call
+-- ---- what was given still stands after each call
 
 module _ (w : ℕ) (t u : TableValue) (told : List ReadValue) (held : AreHeld (state_of t) told) where
   none_held : u ≡ t → AreHeld (state_of u) told
@@ -54,7 +54,7 @@ module _ (w : ℕ) (t u : TableValue) (told : List ReadValue) (held : AreHeld (s
   fail_held (Ok x) f = one_held (Fail w) f.0 f.1
   fail_held r f = none_held (grind arith)
 
--- ---- a result that is told
+-- ---- a result that is given
 
 pub found_done : (w : ℕ) (q : Key) (v : Arc Value Global) (t u : TableValue) → AskGives t w q (Ok (asked.Done v)) u → IsDoneWith (arc_value v) ((state_of u).at q)
 found_done w q v t u a = subst (λ (x : TableValue). IsDoneWith (arc_value v) ((state_of x).at q)) (sym a.2) a.1
@@ -68,14 +68,14 @@ ended_done w o x t u f =
     let c : Changes o.key s t (adds t (Finish w o)) = changes_by t (Finish w o) o.key s f.0 refl in
     subst (λ (y : TableValue). IsDoneWith o.value ((state_of y).at o.key)) (sym f.1) (subst (λ (y : Status). IsDoneWith o.value y) (sym c.here) refl)
 
--- one result more was told
+-- one result more was given
 pub held_one : (s : State) (told : List ReadValue) (q : Key) (v : Value) → AreHeld s told → IsDoneWith v (s.at q) → AreHeld s (told ++ record { key = q; value = v } ∷ [])
 held_one s [] q v all d = (d, tt)
 held_one s (r ∷ rs) q v all d = (all.0, held_one s rs q v all.1 d)
 
 -- ---- what a worker knows
 
--- a worker's reads, all of which it was told, still stand
+-- a worker's reads, all of which it was given, still stand
 pub reads_held : (s : State) (known told reads : List ReadValue) → AreTold (is_told known) reads → IsPrefix known told → AreHeld s told → AreHeld s reads
 reads_held s known told [] all pre held = tt
 reads_held s known told (r ∷ rs) all pre held = (
@@ -85,7 +85,7 @@ reads_held s known told (r ∷ rs) all pre held = (
   reads_held s known told rs all.1 pre held,
 )
 
--- results that are kept were told by a longer list, too
+-- results that are kept are among those that a longer list has
 pub kept_on : (known longer results : List ReadValue) → IsPrefix known longer → AllByRecursion (λ r. Contains known r) results → AllByRecursion (λ r. Contains longer r) results
 kept_on known longer [] pre all = tt
 kept_on known longer (r ∷ rs) pre all = (prefix_contains known longer r pre all.0, kept_on known longer rs pre all.1)
@@ -94,7 +94,7 @@ pub kept_one : (known results : List ReadValue) (r : ReadValue) → AllByRecursi
 kept_one known [] r all h = (h, tt)
 kept_one known (x ∷ xs) r all h = (all.0, kept_one known xs r all.1 h)
 
--- what a shorter list has told, a longer one has, too
+-- what a shorter list has given, a longer one has given, too
 pub told_on : (old mid new : List ReadValue) → IsPrefix old mid → new ≡ mid → StaysTold (is_told old) (is_told new)
 told_on old mid new pre same q v told = subst (λ (l : List ReadValue). is_told l q v) (sym same) (prefix_contains old mid (record { key = q; value = v }) pre told)
 

@@ -26,7 +26,7 @@ pub record IsGiven (queries : Queries) (opened : TableValue)
   pub of_session : IsOfSession queries opened before
   pub gave : gives before after
 
--- what a seat may answer by itself: a result that it was told, or that it lacks memory
+-- what a seat may answer by itself: a result that it was given, or that it lacks memory
 abbrev pub IsOwnAnswer : Result Asked TableFault → Type 0
 IsOwnAnswer (Ok (asked.Done a)) = Unit {0}
 IsOwnAnswer (Err fault.OutOfMemory) = Unit {0}

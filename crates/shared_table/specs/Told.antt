@@ -1,4 +1,4 @@
--- What a worker was told, and the calls that tell of it.
+-- What a worker was given, and the calls that give it.
 use Rattle.std.specs.Prelude.{◌≡◌, ◌⊎◌, ℕ, List, Contains, Result, Err}
 use Rattle.std.specs.declared.alloc.Global.{Global}
 use Rattle.std.specs.declared.sync.Arc.{Arc}
@@ -24,17 +24,17 @@ abbrev pub IsFound : Asked → Value → Type 0
 IsFound (asked.Done a) v = arc_value a ≡ v
 IsFound _ v = ⊥
 
--- Memory was lacking for the event, or to tell of it: it was a step, and came or not.
+-- Memory was lacking for the event, or to report it: it was a step, and came or not.
 abbrev pub MayHaveCome : TableValue → Event → TableValue → Type 0
 MayHaveCome t e u = IsStep t e × ((u ≡ t) ⊎ (u ≡ adds t e))
 
--- mark, where its result is told, too
+-- mark, if its result is given, too
 abbrev pub MarkTells : TableValue → ℕ → Key → Result (Arc Value Global) TableFault → TableValue
     → Type 0
 MarkTells t w q (Err fault.OutOfMemory) u = MayHaveCome t (MarkGreen w q) u
 MarkTells t w q r u = MarkGives t w q r u
 
--- finish, where its result is told, too
+-- finish, if its result is given, too
 abbrev pub FinishTells : TableValue → ℕ → OutcomeValue → Result (Unit {0}) TableFault → TableValue
     → Type 0
 FinishTells t w o (Err fault.OutOfMemory) u = MayHaveCome t (Finish w o) u

@@ -185,7 +185,7 @@ impl<J: Naming, R: Runner> Counted<J, R> {
         self.table.past()
     }
 
-    /// The table, where all shares have come together. Its history has as many events as the workers have counted.
+    /// The table, once all shares have come together. Its history has as many events as the workers have counted.
     pub fn end(self, all: &mut Share<J>) -> Table<R>
         requires whole { all.old.parts ≡ J.parts }
         ensures table { result ≡ self }

@@ -22,14 +22,14 @@ use recorder::{Outcome, Read, Runner};
 use std::marker::Model;
 use std::sync::Arc;
 
-/// A key with its result, as a worker is told of them.
+/// A key with its result, as a worker is given them.
 #[derive(Drop)]
 struct Fact<'a> {
     key: &'a Key,
     sealed: &'a Arc<Sealed>,
 }
 
-/// How a fact stands in the list of all that was told.
+/// How a fact stands in the list of all that was given.
 struct Telling;
 
 impl Plain<Fact<'_>, Read, u64> for Telling {
@@ -41,8 +41,8 @@ impl Plain<Fact<'_>, Read, u64> for Telling {
     ghost state = { λ f. None };
 }
 
-/// What lies under the lock: a counted table, and the list of all keys with their results that it told its workers. Its
-/// role is to tell: each of those keys is done with that result, and what is done stays done, so that a worker's reads
+/// What lies under the lock: a counted table, and the list of all keys with their results that it gave its workers. Its
+/// role is to say: each of those keys is done with that result, and what is done stays done, so that a worker's reads
 /// still stand when it ends a run, and none is compared with the table's again.
 pub(crate) struct Locked<J: Naming, R: Runner> {
     counted: Counted<J, R>,
@@ -76,7 +76,7 @@ impl<J: Naming, R: Runner> Model for Locked<J, R> {
 }
 
 impl<J: Naming, R: Runner> Locked<J, R> {
-    /// A table that has told nothing yet.
+    /// A table that has given nothing yet.
     pub(crate) fn new(counted: Counted<J, R>, head: Head<J, Read>, told: Known<J, Read>) -> Self
         requires { told ≡ [] }
         ensures { result ≡ counted }
@@ -107,7 +107,7 @@ impl<J: Naming, R: Runner> Locked<J, R> {
         self.counted.laws();
     }
 
-    /// Asks for a key. A result that is there is told.
+    /// Asks for a key. A result that is there is given.
     pub(crate) fn ask(
         &mut self,
         tally: &mut Tally<J>,
@@ -129,7 +129,7 @@ impl<J: Naming, R: Runner> Locked<J, R> {
         answer
     }
 
-    /// Takes over the previous session's result, which is told.
+    /// Takes over the previous session's result, which is given.
     pub(crate) fn mark(
         &mut self,
         tally: &mut Tally<J>,
@@ -162,7 +162,7 @@ impl<J: Naming, R: Runner> Locked<J, R> {
         self.counted.begin_run(tally, w, key)
     }
 
-    /// Ends a run by its outcome, whose result is told.
+    /// Ends a run by its outcome, whose result is given.
     pub(crate) fn finish(
         &mut self,
         tally: &mut Tally<J>,
@@ -186,7 +186,7 @@ impl<J: Naming, R: Runner> Locked<J, R> {
         answer
     }
 
-    /// Ends a run by its outcome. What was read was told, so it isn't compared with the table's again where the table
+    /// Ends a run by its outcome. What was read was given, so it isn't compared with the table's again if the table
     /// knows all that the worker does.
     fn end(
         &mut self,
@@ -212,8 +212,8 @@ impl<J: Naming, R: Runner> Locked<J, R> {
         self.counted.fail(tally, w)
     }
 
-    /// Tells a worker of a key that is done with this result, and whether it did: it does, since only the table adds to the
-    /// list, so that it knows all of it.
+    /// Gives a worker a key that is done with this result, and says whether it did. It always does: only the table adds to
+    /// the list, and so knows all of it.
     fn tell(&mut self, memo: &mut Memo<J>, key: &Key, sealed: &Arc<Sealed>) -> bool
         requires { IsDoneWith (arc_value sealed.now) ((state_of self.old).at key.now) }
         ensures same { self.new ≡ self.old }

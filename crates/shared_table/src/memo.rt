@@ -16,8 +16,8 @@ use std::alloc::{AllocError, Global};
 use std::marker::Model;
 use std::sync::Arc;
 
-/// The results that a worker was told, so that it asks the table once for each. Contracts see it as the beginning that
-/// the worker knows of the list of all results that the table told. What is done stays done.
+/// The results that a worker was given, so that it asks the table once for each. Contracts see it as the beginning that
+/// the worker knows of the list of all results that the table gave. What is done stays done.
 pub(crate) struct Memo<J: Naming> {
     alloc: Global,
     known: Known<J, Read>,
@@ -87,7 +87,7 @@ impl<J: Naming> Memo<J> {
         }
     }
 
-    /// Keeps the result of a key that was found done, which was told, and says whether there was memory for it.
+    /// Keeps the result of a key that was found done, which was given, and says whether there was memory for it.
     pub(crate) fn keeps(&mut self, key: &Key, answer: &Result<Asked, TableFault>) -> bool
         requires { TellsDone (is_told self.old) key.now answer.now }
         ensures { self.new ≡ self.old }
@@ -98,7 +98,7 @@ impl<J: Naming> Memo<J> {
         }
     }
 
-    /// Keeps the result of a key, which was told.
+    /// Keeps the result of a key, which was given.
     pub(crate) fn add(&mut self, key: &Key, sealed: &Arc<Sealed>) -> Result<(), AllocError>
         requires { Contains self.old (record { key = key.now; value = arc_value sealed.now }) }
         ensures { self.new ≡ self.old }
@@ -109,7 +109,7 @@ impl<J: Naming> Memo<J> {
         self.hold(key, Arc::try_clone(sealed)?)
     }
 
-    /// Keeps a result of the key's kind, which was told.
+    /// Keeps a result of the key's kind, which was given.
     fn hold(&mut self, key: &Key, shared: Arc<Sealed>) -> Result<(), AllocError>
         requires kind { IsOfKind key.now (arc_value shared) }
         requires told { Contains self.old (record { key = key.now; value = arc_value shared }) }

@@ -5,7 +5,7 @@ use std::marker::Brand;
 use std::sync::ledger::Ledger;
 
 /// The name of a session: its table as it was opened, the ledger of its workers' events, and the list of all that its
-/// workers are told. Whoever makes a session picks its name, so that contracts can say that the shared table and each
+/// workers are given. Whoever makes a session picks its name, so that contracts can say that the shared table and each
 /// worker's count belong to one session.
 pub trait Naming: Ledger + ListNaming {
     ghost use Rattle.job_table.specs.Tables.{TableValue};

@@ -9,7 +9,7 @@ use known_list::Opened;
 use recorder::{Read, Runner};
 use std::sync::ledger::{Blank, Share};
 
-/// A table that was just opened, with the ledger of its workers' events and the list of all that it tells them. None of
+/// A table that was just opened, with the ledger of its workers' events and the list of all that it gives them. None of
 /// them has a name yet.
 #[derive(Drop)]
 pub struct Opening<R: Runner> {

@@ -25,9 +25,9 @@ use std::alloc::AllocError;
 use std::sync::{Arc, Wait};
 
 /// A worker's seat at a shared table: the store that it works with. Others may change the table at any time: contracts
-/// say that each answer is one of a table of this session, and that the results which the worker was told stay. A worker
-/// that asks for a key which another one has waits. The seat keeps the results of done keys that it was given, and answers
-/// for them by itself. No lock is held while the gate is called.
+/// say that each answer is one of a table of this session, and that the results which the worker was given stay. A
+/// worker that asks for a key which another one has waits. The seat keeps the results of done keys that it was given, and
+/// answers for them by itself. No lock is held while the gate is called.
 #[derive(Drop)]
 pub struct Seat<'a, J: Naming, R: Runner, T: Wait, G: Gate> {
     rt: &'a T,

@@ -17,8 +17,8 @@ use std::sync::{Arc, Condvar, Mutex, MutexGuard, Wait};
 
 /// One table for all workers of a session, under a lock. Its type keeps, whenever the lock is free, that the state is
 /// the replay of the history, that the history is legal, that each worker's events are counted, and that each result that
-/// a worker was told still stands. What never changes lies beside the lock: the terms, the previous session, and what is
-/// known at first of the list of all that is told.
+/// a worker was given still stands. What never changes lies beside the lock: the terms, the previous session, and what
+/// is known at first of the list of all that is given.
 pub struct Shared<J: Naming, R: Runner> {
     pub(crate) locked: Mutex<Locked<J, R>>,
     pub(crate) changed: Condvar,
@@ -42,7 +42,7 @@ impl<J: Naming, R: Runner> Drop for Shared<J, R> {
 }
 
 impl<J: Naming, R: Runner> Shared<J, R> {
-    /// Shares a table, and the empty list of all that it tells its workers.
+    /// Shares a table, and the empty list of all that it gives its workers.
     pub fn new(counted: Counted<J, R>, list: Opened<Read>) -> Result<Self, AllocError>
         requires { list.seen.book ≡ J.book }
     {

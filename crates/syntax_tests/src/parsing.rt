@@ -1,5 +1,5 @@
-//! Tests: expected values are from the language's rules and its worked examples. Which texts are no file, where they
-//! stop being one, and the levels are shown by golden tests.
+//! Tests: expected values are from the language's rules and its worked examples. Golden tests show which texts are
+//! no file, where they stop being one, and the levels.
 use mj_lexer::{LexFault, Token, lex};
 use mj_parser::{locate, parse};
 use mj_tree::{ClassTree, Exp, FileTree, MainTree, MethodTree, Place, Stmt, Ty, Variable};

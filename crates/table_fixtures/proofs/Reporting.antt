@@ -1,4 +1,4 @@
--- A session that is shared where its reports have the wanted counts.
+-- A session that is shared if its reports have the wanted counts.
 use Rattle.std.proofs.Common.{◌≡◌, Bool, Option, Some, None, sym, subst}
 use Rattle.std.specs.Prelude.{Result, Ok, Err, IfOk, IfSome, IsTrue}
 use Rattle.std.specs.Arc.{arc_value}

@@ -8,7 +8,7 @@ one_more : {A S : Type 0} (Leads : A → S → S → Type 0) (xs : List A) (x : 
 one_more Leads [] x s t u all one = (u, subst (λ it. Leads x it u) all one, refl)
 one_more Leads (y ∷ ys) x s t u all one = (all.0, all.1, one_more Leads ys x all.0 t u all.2 one)
 
--- where those in front lead in turn, and the next one leads on from there, so do they with it
+-- if those in front lead in turn, and the next one leads on from there, they lead in turn with it
 pub one_further : {A S : Type 0} (Leads : A → S → S → Type 0) (xs : List A) (i : ℕ) (d : A) (s t u : S) → i < length xs
     → InTurn Leads (take i xs) s t → Leads (get_or xs i d) t u → InTurn Leads (take (i + 1) xs) s u
 one_further Leads xs i d s t u l all one =

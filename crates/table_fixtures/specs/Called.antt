@@ -204,7 +204,7 @@ pub record AreEventsOfRun (replay : Replay) (events : List Event) : Type 0 where
   pub run : IsRunOf replay.profile replay.records.now kept outcome
   pub are : events ≡ run_events replay.begins key outcome
 
--- the same, or none where there is no record
+-- the same, or none if there is no record
 abbrev pub AreReplayedEvents : Replay → List Event → Type 0
 AreReplayedEvents replay events =
     ((length replay.records.now ≡ 0) × (events ≡ [])) ⊎ AreEventsOfRun replay events

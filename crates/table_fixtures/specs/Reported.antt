@@ -35,14 +35,14 @@ pub record AreReported (p : Project) (first again : Counts) : Type 0 where
   pub next_session : SessionValue
   pub next_reported : IsReported (Some first_session) p again next_session
 
--- the previous session is the one of this number without records, or none where there is no number
+-- the previous session is the one of this number without records, or none if there is no number
 abbrev pub IsPastOf : Option ℕ → Option SessionValue → Type 0
 IsPastOf None None = Unit {0}
 IsPastOf None (Some s) = ⊥
 IsPastOf (Some number) None = ⊥
 IsPastOf (Some number) (Some s) = IsToldSession number (replicate 32 0) [] s
 
--- why there is no session over this previous session, or none where there is one
+-- why there is no session over this previous session, or none if there is one
 abbrev pub IsFaultOver : Option SessionValue → Project → ℕ → Option DriveFault → Type 0
 IsFaultOver past p workers None =
     (s : SessionValue) × (r : Reports) × IsMade first_terms past p workers s r

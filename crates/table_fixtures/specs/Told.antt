@@ -59,7 +59,7 @@ mark_told true Green = Executed
 mark_told false Executed = Green
 mark_told false Green = Green
 
--- the digits of another result, where there is one
+-- the digits of another result, if there is one
 abbrev pub digits_told : Option Other → List ℕ → List ℕ
 digits_told None own = own
 digits_told (Some other) own = other.digits.now
@@ -91,7 +91,7 @@ pub record IsBehind (change : Change) (before after : Option SessionValue) : Typ
   pub told : IsNextOf change.terms before records session
   pub after_is : after ≡ Some session
 
--- the last session of the chain, or none where the chain is empty
+-- the last session of the chain, or none if the chain is empty
 abbrev pub IsLastOf : List Change → Option SessionValue → Type 0
 IsLastOf chain past = InTurn IsBehind chain None past
 

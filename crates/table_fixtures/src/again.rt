@@ -1,4 +1,4 @@
-//! Calls of a table that are made once more where they are refused memory, if that left the events as they were.
+//! Calls of a table: one that is refused memory is made once more, if the refusal left the events as they were.
 ghost use Rattle.std.specs.Prelude.{◌≡◌, map, IfOk};
 ghost use Rattle.std.specs.Arc.{arc_value};
 ghost use Rattle.query_rules.specs.Queries.{queries};

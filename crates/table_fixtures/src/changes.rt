@@ -14,8 +14,8 @@ use sessions::{Mark, Session, Terms};
 use std::alloc::{AllocError, AllocFailed, Global};
 use std::sync::Arc;
 
-/// A session of these terms with the keys and edges of a list of records: which of them are executed, where the others
-/// are inputs or green, and which have another result than the list says.
+/// A session of these terms with the keys and edges of a list of records: which of them are executed (the others
+/// are inputs or green), and which have another result than the list says.
 #[derive(Clone, Copy)]
 pub struct Change {
     pub terms: Terms,
@@ -163,7 +163,7 @@ pub fn digest_of_change(
     digest_behind(alloc, change.terms, past, records.as_slice())
 }
 
-/// The last session of a chain, or `None` where there is none.
+/// The last session of a chain, or `None` if there is none.
 pub fn past_of(alloc: Global, chain: &[Change]) -> Result<Option<Arc<Session>>, Unfit>
     ensures { IfOk result (λ past. IsLastOf chain.now (session_in past)) }
 {

@@ -65,7 +65,7 @@ fn session_over<T: Threads + Wait + Sync>(
     }
 }
 
-/// The session, to be shared, where this holds.
+/// The session, to be shared, if this holds.
 fn session_if(alloc: Global, session: Session, holds: bool) -> Result<Option<Arc<Session>>, Unfit>
     ensures same { IfOk result (λ made. IfSome made (λ s. arc_value s ≡ session)) }
     ensures holds { IfOk result (λ made. IfSome made (λ _. IsTrue holds)) }
@@ -119,7 +119,7 @@ fn empty_session(alloc: Global, number: u32) -> Result<Arc<Session>, Unfit>
     Ok(share(alloc, session)?)
 }
 
-/// The session of this number without records, where there is a number.
+/// The session of this number without records, if there is a number.
 fn past_numbered(alloc: Global, number: Option<u32>) -> Result<Option<Arc<Session>>, Unfit>
     ensures { IfOk result (λ past. IsPastOf number (session_in past)) }
 {
@@ -129,7 +129,7 @@ fn past_numbered(alloc: Global, number: Option<u32>) -> Result<Option<Arc<Sessio
     }
 }
 
-/// Why there is no such session of the project, or `None` where there is one.
+/// Why there is no such session of the project, or `None` if there is one.
 fn fault_over<T: Threads + Wait + Sync>(
     rt: &T,
     alloc: Global,
@@ -142,7 +142,7 @@ fn fault_over<T: Threads + Wait + Sync>(
     Ok(fault_behind(rt, alloc, past, project, unmade.workers))
 }
 
-/// Why there is no session over this previous session, or `None` where there is one.
+/// Why there is no session over this previous session, or `None` if there is one.
 fn fault_behind<T: Threads + Wait + Sync>(
     rt: &T,
     alloc: Global,
@@ -158,7 +158,7 @@ fn fault_behind<T: Threads + Wait + Sync>(
     }
 }
 
-/// Why there is no such session of a project of this text, or `None` where there is one.
+/// Why there is no such session of a project of this text, or `None` if there is one.
 pub fn drive_fault<T: Threads + Wait + Sync>(
     rt: &T,
     alloc: Global,

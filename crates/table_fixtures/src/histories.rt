@@ -99,7 +99,7 @@ fn is_done(
     }
 }
 
-/// Evaluates the key, which is the record's, and tells whether it is done then with the record's result.
+/// Evaluates the key, which is the record's, and says whether it is done then with the record's result.
 fn comes_done_by(
     alloc: Global,
     table: &mut Table<MiniJava>,
@@ -113,7 +113,7 @@ fn comes_done_by(
     Ok(is_brought(alloc, table, records, kept, key)? && is_done(alloc, table, key, kept.digits)?)
 }
 
-/// Evaluates the record's key, and tells whether it is done then with the record's result.
+/// Evaluates the record's key, and says whether it is done then with the record's result.
 fn comes_done(
     alloc: Global,
     table: &mut Table<MiniJava>,
@@ -126,7 +126,7 @@ fn comes_done(
     comes_done_by(alloc, table, records, kept, &key)
 }
 
-/// Evaluates these keys, and tells whether each is done then with its result. The edges are indices of `records`.
+/// Evaluates these keys, and says whether each is done then with its result. The edges are indices of `records`.
 fn all_done(
     alloc: Global,
     table: &mut Table<MiniJava>,

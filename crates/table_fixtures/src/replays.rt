@@ -25,7 +25,7 @@ use std::sync::Arc;
 
 /// The events of a run by the worker 0 in a project of this text, for a table of these terms: the key of the last of
 /// these records is claimed and finished over the answers of its edges, in a profile, with a begin between them or
-/// without. None where there are no records.
+/// without. None if there are no records.
 #[derive(Clone, Copy)]
 pub struct Replay {
     pub terms: Terms,
@@ -43,7 +43,7 @@ fn add(events: &mut Events, event: Event<MiniJava>) -> Result<(), AllocError>
     Ok(events.push(event)?)
 }
 
-/// Adds that the key is claimed, and begun where it is.
+/// Adds that the key is claimed, and that its run begins if it does.
 fn add_start(alloc: Global, events: &mut Events, key: &Key, begins: bool) -> Result<(), AllocError>
     requires { events.old.items ≡ [] }
     ensures { (o : OutcomeValue) → OnOk result

@@ -73,7 +73,7 @@ const ACROSS: &[Saying] = &[
     },
 ];
 
-/// So it is where all its edges are unchanged. What it reads is taken over.
+/// So it is if all its edges are unchanged. What it reads is taken over.
 const UNCHANGED: &[Saying] = &[
     Saying {
         call: Call::Ask,

@@ -27,7 +27,7 @@ pub(crate) const SECOND_PROFILE: Terms = Terms {
     form: Form::One,
 };
 
-/// A chain of sessions of the class that prints 1: all ten queries are executed; and then, where it prints 2, the tree,
+/// A chain of sessions of the class that prints 1: all ten queries are executed; and then, when it prints 2, the tree,
 /// the index, the header, the method, the check of its body and the answer.
 static SESSIONS_OF_ONE: [Change; 2] = [
     Change {
@@ -257,7 +257,7 @@ pub(crate) const COMMENTED: &[Kept] = &[
     },
 ];
 
-/// The tree of the class where it prints true, and what it reads.
+/// The tree of the class that prints true, and what it reads.
 pub(crate) const TRUE: &[Kept] = &[
     Kept {
         key: KeyParts(Kind::Files, "", ""),

@@ -8,7 +8,7 @@ use Rattle.recorder.specs.Programs.{Prog, Ask}
 use Rattle.result_bytes.specs.Parts.{index_in, tree_in}
 use Rattle.text_queries.specs.Index.{first_file}
 
--- Tree of the file, where there is one
+-- Tree of the file, if there is one
 abbrev pub file_step : Option Name → (Option File → Prog) → Prog
 file_step None k = k None
 file_step (Some f) k = Ask (keys.Tree f) (λ v. k (tree_in v))

@@ -8,6 +8,6 @@ use Rattle.result_bytes.specs.declared.value.Value.{Value}
 use Rattle.result_bytes.specs.declared.value.Value.TheVariants as values
 use Rattle.recorder.specs.Programs.{Prog, Ask}
 
--- Source(f), then the tree of these bytes, where they are a sentence
+-- Source(f), then the tree of these bytes, if they are a sentence
 abbrev pub tree_steps : Name → (Value → Prog) → Prog
 tree_steps f k = Ask (keys.Source f) (λ v. k (values.Tree (option_and_then file_of (source_in v))))

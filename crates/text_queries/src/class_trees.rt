@@ -38,7 +38,7 @@ fn file_of<'r>(rows: &'r [IndexRow], class: &Name) -> Option<&'r Name>
     }
 }
 
-/// Asks the tree of a file, where there is one.
+/// Asks the tree of a file, if there is one.
 fn ask_file<D: Reader>(
     alloc: Global,
     recorder: &mut Recorder<D>,

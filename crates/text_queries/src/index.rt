@@ -68,7 +68,7 @@ fn add_tree(
     }
 }
 
-/// Adds the rows of a file's classes, where the file is a sentence.
+/// Adds the rows of a file's classes, if the file is a sentence.
 fn add_file(
     alloc: Global,
     rows: &mut Vec<IndexRow>,

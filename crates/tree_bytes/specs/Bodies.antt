@@ -49,12 +49,12 @@ body_at (zero ∷ rest) = made_at OfMain top_stmt_at rest
 body_at (suc zero ∷ rest) = made_at OfMethod method_at rest
 body_at (suc (suc b) ∷ rest) = not_canonical (suc (suc b) ∷ rest)
 
--- what a reader gave, where it gave something
+-- what a reader gave, if it gave something
 abbrev given : Result (BodyValue × List ℕ) Breach → BodyValue
 given (Ok x) = x.0
 given (Err breach) = OfMain (Block 0 done)
 
--- the body that bytes spell, where they spell one
+-- the body that bytes spell, if they spell one
 unfoldable pub body_spelled : List ℕ → BodyValue
 body_spelled bytes = given (body_at bytes)
 

@@ -42,7 +42,7 @@ pub struct MethodHead {
 }
 
 /// The statement of `main`, or a method, with tokens in four bytes and at most 500 levels. It is kept as its canonical
-/// bytes, which take a tenth of the room of the tree, and is opened where its parts are needed. Contracts see what the bytes
+/// bytes, which take a tenth of the room of the tree, and is opened when its parts are needed. Contracts see what the bytes
 /// spell.
 pub struct Body {
     bytes: Vec<u8>,

@@ -10,7 +10,7 @@ use crate::writing::{put_class, put_file, put_main};
 use byte_readers::{Format, ReadError};
 use std::alloc::{AllocError, Global};
 
-/// Methods of a class, behind the tag that tells them from `main`.
+/// Methods of a class, behind the tag that distinguishes them from `main`.
 pub struct MethodFormat;
 
 impl Format for MethodFormat {

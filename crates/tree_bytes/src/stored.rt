@@ -203,7 +203,7 @@ fn store_main(alloc: Global, main: &MainTree) -> Result<StoredMain, AllocError>
     Ok(StoredMain { name, body })
 }
 
-/// A main class, where there is one, with its statement as bytes.
+/// A main class, if there is one, with its statement as bytes.
 fn store_any_main(alloc: Global, main: Option<MainTree>) -> Result<Option<StoredMain>, AllocError>
     requires { IfSome (option_map main_view main) MainFits }
     ensures { IfOk result (λ stored. stored ≡ option_map main_view main) }

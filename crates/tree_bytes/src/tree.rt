@@ -12,7 +12,7 @@ use ordered_names::Name;
 use std::alloc::{AllocError, Global};
 use std::marker::Model;
 
-/// The tree of a file, with tokens in four bytes and at most 500 levels. Contracts see it without where it lies in
+/// The tree of a file, with tokens in four bytes and at most 500 levels. Contracts see it, but not where it lies in
 /// memory.
 pub struct Tree {
     root: StoredFile,

@@ -81,7 +81,7 @@ method m =
     name m.name ++ (ty m.returns ++ (list variable m.formals ++ (list variable m.locals
     ++ ((eight (count_stmts m.body) ++ stmts m.body) ++ (exp m.returned ++ four m.return_mark)))))
 
--- a method of a class, behind the tag that tells it from `main`
+-- a method of a class, behind the tag that distinguishes it from `main`
 abbrev pub tagged_method : Method → List ℕ
 tagged_method m = 0x01 ∷ method m
 

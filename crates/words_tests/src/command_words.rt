@@ -1,9 +1,9 @@
-//! Words that no shell gives: another name of the program, and none.
+//! Arguments that no shell gives: another name of the program, and none.
 use command_line::{Subcommand, Words, WordsFault, words};
 use std::alloc::{AllocError, Global};
 use std::test::Fail;
 
-/// The words of a command line.
+/// The arguments of a command line.
 fn list(alloc: Global, texts: &[&str]) -> Result<Vec<String>, Fail> {
     let mut list = Vec::new(alloc);
     for text in texts {
@@ -66,7 +66,7 @@ fn are_texts(texts: &[String], want: &[&str]) -> bool {
             .all(|(text, word)| text.as_str() == *word)
 }
 
-/// Whether these words ask for the subcommand with these files, and for nothing else.
+/// Whether these arguments ask for the subcommand with these files, and for nothing else.
 fn are_asked(words: &Words, subcommand: Subcommand, want: &[&str]) -> bool {
     match words {
         Words::Scratch(asked) => {
@@ -407,7 +407,7 @@ const CHECKS: &[Check] = &[
     },
 ];
 
-/// Whether these words ask for this check.
+/// Whether these arguments ask for this check.
 fn is_check(words: &Words, want: &Check) -> bool {
     match words {
         Words::Check(asked) => {

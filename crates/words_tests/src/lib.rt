@@ -1,4 +1,4 @@
-//! Tests of the reader of the command line, of words that no shell gives among them.
+//! Tests of the reader of the command line, of arguments that no shell gives among them.
 #![tactic(auto)]
 
 #[cfg(test)]

@@ -10,7 +10,7 @@ use item_ids::Key;
 use sessions::Session;
 use std::sync::Arc;
 
-/// The answer that a session holds, or `None` where it has no record of it.
+/// The answer that a session holds, or `None` if it has no record of it.
 pub(crate) fn answer_of(session: &Session) -> Option<&Arc<Sealed>>
     ensures { MatchOption result (entry_at session.now keys.Answer ≡ None)
         (λ a. HasValue (entry_at session.now) keys.Answer (arc_value a.now)) }

@@ -4,7 +4,7 @@ use crate::hooks::Hook;
 use item_ids::Key;
 use std::sync::atomic::{AtomicU64, Ordering};
 
-/// Counts the runs of all workers together. Where the number of a run, from 0, is given, this run is out of memory.
+/// Counts the runs of all workers together. If the number of a run, from 0, is given, this run is out of memory.
 #[derive(Drop)]
 pub(crate) struct Counting<'a> {
     pub runs: &'a AtomicU64,

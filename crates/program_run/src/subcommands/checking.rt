@@ -66,7 +66,7 @@ pub(crate) fn check<R: Files + AllocGlobal, T: Threads + Wait + Sync>(
     check_project(rt, threads, &project, cache.as_str(), options)
 }
 
-// The report on a check of the project over the cache of this folder. Where its session isn't kept the notes stand in
+// The report on a check of the project over the cache of this folder. If its session isn't kept, the notes stand in
 // front of what can't be written.
 fn check_project<R: Files + AllocGlobal, T: Threads + Wait + Sync>(
     rt: &R,

@@ -1,4 +1,4 @@
-//! A reader that keeps what it was asked and told.
+//! A reader that keeps what it was asked and given.
 ghost use Rattle.std.specs.Prelude.{◌≡◌, ◌⊎◌, List, [], ◌∷◌, ◌++◌, Contains, OnOk, OnErr, IfOk, IfErr, IfSome, Some, None, MatchOption, option_copied};
 ghost use Rattle.std.specs.Arc.{arc_value};
 ghost use Rattle.std.specs.List.{AllByRecursion};

@@ -6,7 +6,7 @@ use crate::reading::body_hash::BodyHash;
 use crate::reading::feed_fault::FeedFault;
 use devices::Feed;
 
-/// Fills the room with what the feed holds. Where that is less, it is a breach.
+/// Fills the room with what the feed holds. If that is less, it is a breach.
 fn fill<F: Feed>(feed: &mut F, room: &mut [u8]) -> Result<(), FeedFault>
     ensures filled { Fills (F.holds feed.old) (F.holds feed.new) room.old room.new result }
     ensures counted { CountsFeedFault result (F.failed feed.old) (F.failed feed.new) }

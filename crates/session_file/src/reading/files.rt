@@ -35,7 +35,7 @@ struct FileHead {
     count: u64,
 }
 
-/// The terms of the files that begin so, or `None` where none do.
+/// The terms of the files that begin so, or `None` if none do.
 pub fn terms_of_start(bytes: &[u8; 6]) -> Option<Terms>
     ensures found { IfSome result (λ terms. bytes.now ≡ start terms) }
     ensures none { IfNone result ((terms : TermsValue) → bytes.now ≢ start terms) }
@@ -49,7 +49,7 @@ pub fn terms_of_start(bytes: &[u8; 6]) -> Option<Terms>
     }
 }
 
-/// The session whose file the bytes are, or the first breach from the left, where there is no previous session.
+/// The session whose file the bytes are, or the first breach from the left, if there is no previous session.
 pub fn read(alloc: Global, bytes: &[u8]) -> Result<Session, FileFault>
     // What is read is a session, and the bytes are its file.
     ensures found { IfOk result (λ s. IsSession s × (bytes.now ≡ file_of s)) }
@@ -90,7 +90,7 @@ pub fn read_after(alloc: Global, past: Option<&Session>, bytes: &[u8]) -> Result
     }
 }
 
-/// The session whose file the feed begins with, or the first breach from the left, where there is no previous session.
+/// The session whose file the feed begins with, or the first breach from the left, if there is no previous session.
 /// Just that file is taken. Memory is only taken for bytes that were there. After a refusal the feed stands somewhere in
 /// the file.
 pub fn read_from<F: Feed>(alloc: Global, feed: &mut F) -> Result<Session, FileFault>
@@ -98,7 +98,7 @@ pub fn read_from<F: Feed>(alloc: Global, feed: &mut F) -> Result<Session, FileFa
     ensures session { IfOk result IsSession }
     // In form 2 it has no green record.
     ensures taken { IfOk result (IsTakenFrom None) }
-    // Its file was taken from what the feed held, and the rest is left, where the feed tells its bytes.
+    // Its file was taken from what the feed held, and the rest is left, if the feed shows its bytes.
     ensures found { IfOk result (λ s. Given (F.holds feed.old) (F.holds feed.new) (file_of s)) }
     // The file of such a session is read, whatever follows it, unless memory runs out or the device fails.
     ensures only { (s : SessionValue) (rest : List ℕ) → IsSession s → IsTakenFrom None s
@@ -107,7 +107,7 @@ pub fn read_from<F: Feed>(alloc: Global, feed: &mut F) -> Result<Session, FileFa
     // Which breach it is.
     ensures exact { (bytes : List ℕ) → F.holds feed.old bytes
         → IsUnlessStopped result (session_at bytes) }
-    // A failure of the device is answered exactly where it was counted.
+    // A failure of the device is answered exactly if it was counted.
     ensures counted { CountsDevice result (F.failed feed.old) (F.failed feed.new) }
 {
     read_from_after(alloc, None, feed)
@@ -125,7 +125,7 @@ pub fn read_from_after<F: Feed>(
     ensures session { IfOk result IsSession }
     // In form 2 its green records stand in the previous session, with the same results.
     ensures taken { IfOk result (IsTakenFrom (option_copied past.entry)) }
-    // Its file was taken from what the feed held, and the rest is left, where the feed tells its bytes.
+    // Its file was taken from what the feed held, and the rest is left, if the feed shows its bytes.
     ensures found { IfOk result (λ s. Given (F.holds feed.old) (F.holds feed.new) (file_of s)) }
     // The file of such a session is read, whatever follows it, unless memory runs out or the device fails.
     ensures only { (s : SessionValue) (rest : List ℕ) → IsSession s
@@ -135,7 +135,7 @@ pub fn read_from_after<F: Feed>(
     // Which breach it is.
     ensures exact { (bytes : List ℕ) → F.holds feed.old bytes
         → IsUnlessStopped result (session_after (option_copied past.entry) bytes) }
-    // A failure of the device is answered exactly where it was counted.
+    // A failure of the device is answered exactly if it was counted.
     ensures counted { CountsDevice result (F.failed feed.old) (F.failed feed.new) }
 {
     check_past(past);
@@ -170,7 +170,7 @@ fn read_session<F: Feed>(
     }
 }
 
-/// Reads all but the digest at the end, where threads may have opened results of records.
+/// Reads all but the digest at the end; threads may have opened results of its records.
 pub(crate) fn read_body<F: Feed>(
     alloc: Global,
     past: Option<&Session>,

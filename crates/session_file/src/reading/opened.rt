@@ -33,7 +33,7 @@ pub(crate) fn opened_by<T: Threads + Sync>(
     Ok(all)
 }
 
-/// The form of a file, and what follows its head; nothing where it begins as no file does.
+/// The form of a file, and what follows its head; nothing if it begins as no file does.
 fn records_of(bytes: &[u8]) -> Option<(Form, &[u8])> {
     let terms = terms_of_start(bytes.first_chunk::<6>()?)?;
     let (_, records) = bytes.split_at_checked(HEAD)?;

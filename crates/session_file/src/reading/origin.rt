@@ -12,7 +12,7 @@ use sessions::{Finder, Form, Mark, Session};
 use std::marker::Model;
 use std::sync::Arc;
 
-/// What the records of a file are read over: the previous session, where there is one, and the form of the file. Results
+/// What the records of a file are read over: the previous session, if there is one, and the form of the file. Results
 /// that other threads opened are at hand, too, by the records' indices; they may be any.
 #[derive(Drop)]
 pub(crate) struct Origin<'a> {

@@ -14,7 +14,7 @@ pub(crate) struct Place<'a> {
 }
 
 /// The place of the result of the record that these bytes of a file begin with, if the record has one, and the bytes behind
-/// the record. There is nothing where no record can be made out.
+/// the record. There is nothing if no record can be made out.
 pub(crate) fn next_place(form: Form, bytes: &[u8]) -> Option<(Option<Place<'_>>, &[u8])>
     ensures { IfSome result (λ x. length x.1.now < length bytes.now) }
 {

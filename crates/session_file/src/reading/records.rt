@@ -94,7 +94,7 @@ fn read_record<F: Feed>(
     Ok(Record::new(item.key, item.mark, rest.edges, rest.sealed))
 }
 
-/// Reads a key and its mark, where these may follow the records in front.
+/// Reads a key and its mark, if these may follow the records in front.
 fn read_placed<F: Feed>(
     alloc: Global,
     feed: &mut F,
@@ -112,7 +112,7 @@ fn read_placed<F: Feed>(
     }
 }
 
-/// The key is greater than the one before, and its mark is Input exactly where it is an input.
+/// The key is greater than the one before, and its mark is Input exactly if it is an input.
 #[tactic(auto, unfolding(crate::specs::Reading::check_place))]
 fn check_place(front: &[Record], item: &Item) -> Result<(), FileFault>
     ensures value { result ≡ check_place front.now item.now }
@@ -127,7 +127,7 @@ fn check_place(front: &[Record], item: &Item) -> Result<(), FileFault>
     Ok(())
 }
 
-/// Whether a key is greater than that of the last record, where there is one.
+/// Whether a key is greater than that of the last record, if there is one.
 fn is_behind(last: Option<&Record>, key: &Key) -> bool
     ensures { result ≡ is_behind (option_copied last.entry) key.now }
 {

@@ -37,7 +37,7 @@ pub(crate) fn take_result<F: Feed>(
     }
 }
 
-/// One more owner of a result, where it has this fingerprint.
+/// One more owner of a result, if it has this fingerprint.
 fn with_print(
     had: Option<&Arc<Sealed>>,
     print: &[u8; 32],
@@ -66,7 +66,7 @@ pub(crate) struct Known<'a> {
     pub(crate) opened: Option<&'a Arc<Sealed>>,
 }
 
-/// Reads the result of the record at an index, which is of a kind. Where a known one is the same, that is shared.
+/// Reads the result of the record at an index, which is of a kind. If a known one is the same, that is shared.
 pub(crate) fn read_result<F: Feed>(
     alloc: Global,
     feed: &mut F,
@@ -89,7 +89,7 @@ pub(crate) fn read_result<F: Feed>(
     }
 }
 
-/// The value of a kind that the text spells, where it has the fingerprint.
+/// The value of a kind that the text spells, if it has the fingerprint.
 fn share_or_open(
     alloc: Global,
     known: Known<'_>,
@@ -139,7 +139,7 @@ fn is_spelled(sealed: &Sealed, kind: Kind, print: &[u8; 32], text: &[u8]) -> boo
     sealed.bytes() == text
 }
 
-/// The value of a kind that the text spells, where it has the fingerprint.
+/// The value of a kind that the text spells, if it has the fingerprint.
 pub(crate) fn open(
     alloc: Global,
     kind: Kind,
