@@ -1,0 +1,9 @@
+pub mod Kinds
+pub mod KindLaws
+pub mod Keys
+pub mod Places
+pub mod Inputs
+pub mod KeyLists
+pub mod Hashes
+pub mod Words
+pub mod KeyShapes
