@@ -9,13 +9,13 @@ import sys
 import mjrg
 
 SOURCES = {
-    "Main.java": b"""class Main {
+    b"Main.java": b"""class Main {
     public static void main(String[] a) {
         System.out.println(new Counter().next(true));
     }
 }
 """,
-    "Counter.java": b"""class Counter {
+    b"Counter.java": b"""class Counter {
     public int next(int last) { return last + 1; }
 }
 """,
@@ -28,7 +28,7 @@ EDITED = b"""class Counter {
 
 def main():
     library, chain, sources = mjrg.Library(), [], dict(SOURCES)
-    for edit in ({}, {"Counter.java": EDITED}):
+    for edit in ({}, {b"Counter.java": EDITED}):
         sources |= edit
         check = library.check(sources, chain[-1:])
         print(check.err.decode(), end="")

@@ -28,8 +28,8 @@ def runs(parts):
 
 
 def packed(sources):
-    """The sources, a dictionary of texts by their names, in its order."""
-    return runs(part for name, text in sources.items() for part in (name.encode(), text))
+    """The sources, a dictionary of texts by their names, both in bytes, in its order."""
+    return runs(part for source in sources.items() for part in source)
 
 
 class Library:
