@@ -81,8 +81,8 @@ mjrg_result mjrg_scratch(const uint8_t *files, size_t files_size, uint32_t profi
 
 /* Checks a project over a previous session, as `mjrg check` does with one worker: what can't have changed isn't run again. `session`
  * gets the file of the next session, the program's byte for byte; the caller keeps it, and hands it over with the next check. `out`
- * gets the answer, and `err` a line for each diagnostic and one on the session. Where the program begins a new chain with a note, as
- * behind a file that is damaged, the call is refused.
+ * gets the answer, and `err` a line for each diagnostic and one on the session. If the program would begin a new chain with a note,
+ * as behind a damaged file, the call is refused.
  *
  * `files` and `messages` are as for mjrg_scratch; `profile` and `form` are those of `--profile` and `--form`, 1 or 2. `past` is empty
  * for the first session of a chain. Else it has the files of the sessions before, from the last one of form 1 on (or from the first,
