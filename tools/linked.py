@@ -134,7 +134,7 @@ class Library:
         done = getattr(self.made, f"mjrg_{name}")(*words)
         stays = [place.has(data) for place, data in zip(places, whole[:-len(sizes)])]
         stays += [ctypes.string_at(at - FRONT, FRONT) == EMPTY * FRONT for at, _ in buffers]
-        lengths = [getattr(done, field) for field, _ in done._fields_[1:]][:len(sizes)]
+        lengths = [getattr(done, field) for field, _ in done._fields_[1:]]
         return Done(done.status if all(stays) else None, [ctypes.string_at(*buffer) for buffer in buffers], lengths)
 
     def texts(self, name, *given):
@@ -142,9 +142,9 @@ class Library:
         and has to report the same lengths; else the status is None."""
         count = self.writes[name]
         first = self.call(name, *given, sizes=[0] * count)
-        done = self.call(name, *given, sizes=first.lengths)
-        is_told = first.status == (TOO_SMALL if any(first.lengths) else done.status) and first.lengths == done.lengths
-        return (done.status if is_told else None, *done.buffers)
+        done = self.call(name, *given, sizes=first.lengths[:count])
+        is_reported = first.status == (TOO_SMALL if any(first.lengths) else done.status) and first.lengths == done.lengths
+        return (done.status if is_reported else None, *done.buffers)
 
     def scratch(self, files, profile=1, messages=False):
         """What mjrg_scratch writes of these packed files."""
