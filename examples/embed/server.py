@@ -6,7 +6,8 @@ of the repository:
 
 Each request is a line on standard input:
 
-    set NAME LENGTH    the file NAME has the LENGTH bytes that follow this line; a new file comes behind the others
+    set NAME LENGTH    the file NAME has the LENGTH bytes that follow this line; a new file comes behind the others (LENGTH has at
+                       most eight digits)
     remove NAME        there is no file NAME any more
     check              asks for a line on each diagnostic, with its sentence and its source line, and one on the session
     audit              asks whether the chain of the sessions is accepted and the last one is of these files, and for its answer
@@ -31,7 +32,7 @@ class Server:
         """The status and the bytes that answer this line, of whose bytes the rest stands in the requests."""
         verb, _, rest = line.rstrip(b"\n").partition(b" ")
         name, _, length = rest.rpartition(b" ")
-        if verb == b"set" and length.isdigit():
+        if verb == b"set" and length.isdigit() and len(length) <= 8:
             self.sources[name] = requests.read(int(length))
         elif verb == b"remove" and rest in self.sources:
             del self.sources[rest]
