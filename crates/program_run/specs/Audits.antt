@@ -4,9 +4,7 @@ use Rattle.std.specs.Io.KnownBytes.{Appends}
 use Rattle.std.specs.List.{AllByRecursion}
 use Rattle.std.specs.declared.alloc.Global.{Global}
 use Rattle.named_files.specs.Projects.{SourceFile, names_of}
-use Rattle.mj_rules.specs.AnswerWords.{AnswerValue, text_of}
 use Rattle.result_bytes.specs.declared.value.Value.{Value}
-use Rattle.result_bytes.specs.declared.value.Value.TheVariants as values
 use Rattle.sessions.specs.Sessions.{IsSession, SessionValue}
 use Rattle.sessions.specs.Spelling.{file_of}
 use Rattle.audit_graph.specs.declared.fault.AuditFault.{AuditFault}
@@ -18,11 +16,13 @@ use Rattle.mini_java.specs.Headline.{ChainRefuses, ChainRefusesAgainst, IsAccept
 use Rattle.mini_java.specs.Taken.{HasTaken}
 use Rattle.mini_java.specs.declared.auditor.ChainAuditor.{ChainAuditor}
 use Rattle.command_line.specs.declared.asked.AuditWords.{AuditWords}
+use Rattle.reports.specs.Auditing.{AreAcceptedTexts}
+use Rattle.reports.specs.declared.auditing.AuditTexts.{AuditTexts}
+use Rattle.program_run.specs.Endings.{accepted_report}
 use Rattle.program_run.specs.Unread.{NamesFail}
 use Rattle.program_run.specs.declared.failure.Failure.{Failure}
 use Rattle.program_run.specs.declared.failure.Failure.TheVariants as failure
 use Rattle.program_run.specs.declared.report.Report.{Report}
-use Rattle.program_run.specs.declared.report.Status.TheVariants as status
 
 -- ---- what is said of each file
 
@@ -48,19 +48,11 @@ told_of false names sessions = []
 
 -- ---- accepted
 
--- accepted: 3 sessions, 22 runs
-abbrev pub accepted_line : ℕ → ℕ → List ℕ
-accepted_line sessions runs =
-    codes "accepted: " ++ decimal sessions ++ codes " sessions, " ++ decimal runs
-    ++ codes " runs\n"
-
 -- The text of an answer is on standard output, and the line on standard error.
 pub record IsAcceptedReport (v : Value) (sessions runs : ℕ) (report : Report) : Type 0 where
-  pub answer : AnswerValue
-  pub value : v ≡ values.Answer answer
-  pub text : string_bytes report.answer ≡ text_of answer
-  pub line : string_bytes report.notes ≡ accepted_line sessions runs
-  pub status : report.status ≡ status.Clean
+  pub texts : AuditTexts
+  pub tells : AreAcceptedTexts v sessions runs texts
+  pub report_is : report ≡ accepted_report texts
 
 -- the project of the sources of these names, if there are any
 abbrev pub IsProjectOf : List (List ℕ) → Option (List SourceFile) → Type 0
