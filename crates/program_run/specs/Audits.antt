@@ -12,11 +12,12 @@ use Rattle.audit_graph.specs.declared.fault.AuditFault.TheVariants as chain
 use Rattle.session_file.specs.declared.fault.FileFault.TheVariants as file
 use Rattle.profiles.specs.declared.profile.Profile.{Profile}
 use Rattle.cached_check.specs.Lines.{counts_of}
-use Rattle.mini_java.specs.Headline.{ChainRefuses, ChainRefusesAgainst, IsAcceptedAgainst, IsAcceptedChain}
+use Rattle.mini_java.specs.Headline.{ChainRefuses}
 use Rattle.mini_java.specs.Taken.{HasTaken}
 use Rattle.mini_java.specs.declared.auditor.ChainAuditor.{ChainAuditor}
 use Rattle.command_line.specs.declared.asked.AuditWords.{AuditWords}
 use Rattle.reports.specs.Auditing.{AreAcceptedTexts}
+use Rattle.reports.specs.Chains.{IsAcceptedOver, RefusesOver}
 use Rattle.reports.specs.declared.auditing.AuditTexts.{AuditTexts}
 use Rattle.program_run.specs.Endings.{accepted_report}
 use Rattle.program_run.specs.Unread.{NamesFail}
@@ -59,18 +60,6 @@ abbrev pub IsProjectOf : List (List ℕ) → Option (List SourceFile) → Type 0
 IsProjectOf [] project = project ≡ None
 IsProjectOf (name ∷ names) (Some project) = names_of project ≡ name ∷ names
 IsProjectOf (name ∷ names) None = ⊥
-
--- the files are accepted, and if there is a project the last session is one of just its files
-abbrev pub IsAcceptedOver : Option (List SourceFile) → List (List ℕ) → Profile → Value → ℕ → ℕ
-    → Type 0
-IsAcceptedOver None files profile v sessions runs = IsAcceptedChain files profile v sessions runs
-IsAcceptedOver (Some project) files profile v sessions runs =
-    IsAcceptedAgainst project files profile v sessions runs
-
--- the files are refused, or if there is a project the last session isn't one of just its files
-abbrev pub RefusesOver : Option (List SourceFile) → List (List ℕ) → AuditFault → Type 0
-RefusesOver None files fault = ChainRefuses files fault
-RefusesOver (Some project) files fault = ChainRefusesAgainst project files fault
 
 -- the names of an audit: those of its files, and those of its sources
 abbrev pub file_names : AuditWords → List (List ℕ)

@@ -4,7 +4,8 @@ ghost use Rattle.std.specs.Arc.{arc_value};
 ghost use Rattle.std.specs.Io.KnownBytes.{Appends};
 ghost use Rattle.audit_replay.specs.Audits.{last_of};
 ghost use Rattle.mini_java.specs.Taken.{HasTaken};
-ghost use Rattle.program_run.specs.Audits.{AuditFails, AuditsTo, FailsBehind, IsAcceptedOver, IsProjectOf, IsStopped, RefusesOver, SourcesFail, TakeFails, TakesMore, TakesNext, TellFails, TookAll, failure_of, told_last};
+ghost use Rattle.reports.specs.Chains.{IsAcceptedOver, RefusesOver};
+ghost use Rattle.program_run.specs.Audits.{AuditFails, AuditsTo, FailsBehind, IsProjectOf, IsStopped, SourcesFail, TakeFails, TakesMore, TakesNext, TellFails, TookAll, failure_of, told_last};
 
 use crate::failure::Failure;
 use crate::files::{failure_to_read, read_files};
