@@ -4,28 +4,23 @@ use Rattle.std.proofs.Math.Bool.{or_assoc}
 use Rattle.std.specs.declared.alloc.Global.{Global}
 use Rattle.std.proofs.lemmas.List.{length-map, drop_all}
 use Rattle.std.proofs.lemmas.Option.{none-some, same_Some, slice_get-get_or, get_or_from_slice_get}
-use Rattle.mj_tree.specs.Trees.{Name}
 use Rattle.mj_tree.specs.declared.tree.FileTree.{FileTree}
 use Rattle.mj_tree.specs.declared.tree.Ty.{Ty}
 use Rattle.mj_tree.specs.declared.tree.Variable.{Variable}
 use Rattle.mj_tree.specs.Views.{file_view}
 use Rattle.mj_members.specs.Classes.{tree_view, class_ref_view}
-use Rattle.mj_members.specs.Declarations.{ClassDecl}
-use Rattle.mj_classes.specs.Declarations.{place}
-use Rattle.mj_classes.specs.Chains.{EndOf, Chain, chain_of}
-use Rattle.mj_classes.specs.Walks.{IsChainEndAt}
 use Rattle.mj_classes.specs.Classes.{files_view}
 use Rattle.mj_members.specs.declared.class.AnyClassTree.{AnyClassTree}
 use Rattle.mj_members.specs.declared.class.AnyClassTree.TheVariants.{Main, Plain}
 use Rattle.mj_members.specs.declared.class.ClassRef.{ClassRef}
-use Rattle.mj_tree.specs.declared.place.Place.TheVariants.{Project, Class, ClassOf}
+use Rattle.mj_tree.specs.declared.place.Place.TheVariants.{Project, ClassOf}
 use Rattle.mj_tree.proofs.Positions.{read_at}
-use Rattle.mj_answer.specs.declared.code.Code.TheVariants.{E102, E104, E202}
+use Rattle.mj_answer.specs.declared.code.Code.TheVariants.{E102, E104}
 use Rattle.mj_answer.specs.declared.diagnostic.Diagnostic.{Diagnostic}
 use Rattle.named_files.specs.Projects.{SourceFile, source_view, sources_view}
 use Rattle.named_files.specs.Repeats.{repeats}
 use Rattle.mj_rules.specs.Sentences.{file_of, trees_of}
-use Rattle.mj_rules.specs.FaultLists.{fault, when_fault, is_cycle, chain_faults, repeated_class, each_numbered, has_main, any_main, file_faults, files_faults, same_type, same_types}
+use Rattle.mj_rules.specs.FaultLists.{fault, when_fault, repeated_class, each_numbered, has_main, any_main, file_faults, files_faults, same_type, same_types}
 use Rattle.named_files.proofs.Listed.{at_map, map_at}
 use Rattle.named_files.proofs.RepeatLemmas.{length-repeats}
 
@@ -165,14 +160,3 @@ three_parts a b c f0 f1 f2 f3 e0 e1 e2 e3 = e3 ∙ (ap (λ x. x ++ c) (e2 ∙ ap
 pub main_added : (old new : List Diagnostic) (any : Bool) → ((any ≡ false) × (new ≡ old ++ fault Project E102 ∷ [])) ⊎ ((any ≡ true) × (new ≡ old)) → new ≡ old ++ when_fault (not any) Project E102
 main_added old new any (inl h) = h.1 ∙ ap (λ b. old ++ when_fault (not b) Project E102) (sym h.0)
 main_added old new any (inr h) = h.1 ∙ (sym (append-nil old) ∙ ap (λ b. old ++ when_fault (not b) Project E102) (sym h.0))
-
--- ---- the end of a chain
-
-ended : (o : Option Chain) (end : EndOf) → option_map (λ (p : Chain). p.1) o ≡ Some end → when_fault (is_cycle end) Class E202 ≡ chain_faults o
-ended None end e = absurd (none-some end e)
-ended (Some chain) end e = ap (λ (x : EndOf). when_fault (is_cycle x) Class E202) (sym (same_Some chain.1 end e))
-
--- what is added for the end of its chain is added for the class at the place
-pub chain_ended : (cs : List ClassDecl) (at : ℕ) (end : EndOf) (old new : List Diagnostic) → IsChainEndAt cs at end → new ≡ old ++ when_fault (is_cycle end) Class E202
-    → (c : Name) → place cs c ≡ Some at → new ≡ old ++ chain_faults (chain_of cs c)
-chain_ended cs at end old new is added c e = added ∙ ap (λ (ds : List Diagnostic). old ++ ds) (ended (chain_of cs c) end (is c e))

@@ -1,4 +1,4 @@
-use Rattle.std.proofs.Common.{◌≡◌, ◌↔◌, ℕ, Contains, ◌∙◌, ◌++◌, ◌∷◌, [], ◌<◌, ◌≤◌, List, All, Some, length, map, take, refl, sym, ap, subst, arith, take_all}
+use Rattle.std.proofs.Common.{◌≡◌, ◌↔◌, ℕ, Contains, ◌∙◌, ◌++◌, ◌∷◌, [], ◌<◌, ◌≤◌, List, All, length, map, take, refl, sym, ap, subst, arith, take_all}
 use Rattle.std.specs.Prelude.{slice_get}
 use Rattle.std.proofs.lemmas.Option.{none-some}
 use Rattle.std.proofs.lemmas.List.{take_more, map-append}
@@ -31,8 +31,8 @@ unreachable-requires c =
     let none = place_none (declared_in c.declarations-declarations.result.now) c.name-item.result (sym c.in_default.ensures) in
     none-some k.0 (sym none ∙ (ap (λ d. decl (declared_in d) c.name-item.result) same ∙ k.1))
 
-pub class_at-requires : goal.class_at-requires
-class_at-requires c = first_within (declared_in c.declarations-declarations.result.now) c.in-Some.at (c.name-item.result, sym c.in-Some.ensures)
+pub class_at-class-requires : goal.class_at-class-requires
+class_at-class-requires c = first_within (declared_in c.declarations-declarations.result.now) c.in-Some.at (c.name-item.result, sym c.in-Some.ensures)
 
 pub class_answer-requires-clause-first : goal.class_answer-requires-clause-first
 class_answer-requires-clause-first c =
