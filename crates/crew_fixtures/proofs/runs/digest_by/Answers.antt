@@ -9,6 +9,6 @@ pub returns-in-Ok : goal.returns-in-Ok
 returns-in-Ok g c = record {
   session = c.in-Ok.session;
   reports = c.in-Ok.field-0-1;
-  of = subst (λ (p : Project). IsSessionOf queries first_terms None p c.args.crew.workers c.in-Ok.session c.in-Ok.field-0-1) c.in_ok-project.ensures c.in-Ok.ensures.gives.2;
+  of = subst (λ (p : Project). IsSessionOf queries first_terms None p c.args.steps.workers c.in-Ok.session c.in-Ok.field-0-1) c.in_ok-project.ensures c.in-Ok.ensures.gives.2;
   digest_is = c.digest.ensures;
 }
