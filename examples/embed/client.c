@@ -1,7 +1,7 @@
 /* Checks two sources that stand in memory, as an editor does, edits one of them and checks again over the first session, and audits
  * both sessions. Prints the lines on diagnostics and sessions, then the last answer, and ends with the status of the last check.
  *
- *     cc -I include examples/embed/client.c "$(tools/library)" -o client && ./client */
+ *     cc -I dist examples/embed/client.c dist/libmjrg.a -o client && ./client */
 #include <stdio.h>
 #include <string.h>
 

@@ -1,8 +1,6 @@
 -- A session that was closed has a record of the answer.
-use Rattle.std.proofs.Common.{◌≡◌, ◌∙◌, ℕ, ◌<◌, Option, Some, None, Err, refl, sym, ap, arith}
-use Rattle.std.specs.Prelude.{IfSome}
-use Rattle.std.specs.declared.alloc.Global.{Global}
-use Rattle.std.specs.declared.sync.Arc.{Arc}
+use Rattle.std.proofs.Common.{◌≡◌, ◌∙◌, ℕ, ◌<◌, Option, Some, None, Result, Ok, Err, refl, sym, ap, arith}
+use Rattle.std.specs.Prelude.{IfErr, IfOk, IfSome}
 use Rattle.item_ids.specs.declared.key.Key.TheVariants.{Answer}
 use Rattle.result_bytes.specs.declared.value.Value.TheVariants as values
 use Rattle.mj_answer.specs.AnswerValues.{AnswerValue}
@@ -14,7 +12,7 @@ use Rattle.query_rules.specs.Queries.{queries}
 use Rattle.providers.specs.AnswerValues.{IsAnswerValue}
 use Rattle.providers.proofs.AnswerKind.{answer_value}
 use Rattle.sessions.specs.declared.terms.Terms.{Terms}
-use Rattle.sessions.specs.Sessions.{SessionValue, IsSession, Entry, entries, entry_at, session_in}
+use Rattle.sessions.specs.Sessions.{SessionValue, IsSession, Entry, entries, entry_at}
 use Rattle.sessions.proofs.EntryRules.{has_key}
 use Rattle.graph_rules.specs.Steps.{State}
 use Rattle.graph_rules.specs.Graphs.{AreClosed, answer}
@@ -23,12 +21,12 @@ use Rattle.graph_rules.proofs.SessionRules.{session_graph, told_of_entry, entry_
 use Rattle.key_states.specs.Closing.{IsFull}
 use Rattle.session_cache.specs.Names.{most}
 use Rattle.next_sessions.specs.Nexts.{StandsApart, IsNextSession}
-use Rattle.mini_java.specs.Sessions.{DriveGives, IsCrew, IsSessionOf}
+use Rattle.mini_java.specs.Sessions.{DriveGives, IsCrew}
 use Rattle.mini_java.specs.DriveFault.{DriveFault}
 use Rattle.mini_java.specs.DriveFault.TheVariants as drive
 use Rattle.mini_java.specs.Reports.{Reports}
 use Rattle.mini_java.proofs.Headline.{means_the_rules}
-use Rattle.cached_check.specs.Checks.{RecordsAnswer, IsNextByRules, IsMadeOver}
+use Rattle.cached_check.specs.Checks.{RecordsAnswer, IsNextByRules, IsMadeOver, made_in}
 
 -- the record of the answer has one
 pub has_answer_value : (s : SessionValue) → IsSession s → (r : Entry) → entry_at s Answer ≡ Some r → IsAnswerValue r.value
@@ -51,11 +49,12 @@ has_room None room full = full
 has_room (Some s) room full = omega arith
 
 -- one to 64 workers lack nothing but memory for a session that there is room for
-pub only_memory : (terms : Terms) (past : Option SessionValue) (p : Project) (workers : ℕ) (fault : DriveFault) → IsCrew workers → IfSome past (λ s. s.number < most)
-    → DriveGives queries terms past p workers (Err fault) → fault ≡ drive.OutOfMemory
-only_memory terms past p workers drive.Workers crew room h = absurd (h crew)
-only_memory terms past p workers drive.ChainFull crew room h = absurd (has_room past room h.1)
-only_memory terms past p workers drive.OutOfMemory crew room h = refl
+pub only_memory : (terms : Terms) (past : Option SessionValue) (p : Project) (workers : ℕ) (run : Result (SessionValue × Reports) DriveFault) → IsCrew workers
+    → IfSome past (λ s. s.number < most) → DriveGives queries terms past p workers run → IfErr (made_in run) (λ fault. fault ≡ drive.OutOfMemory)
+only_memory terms past p workers (Ok done) crew room h = tt
+only_memory terms past p workers (Err drive.Workers) crew room h = absurd (h crew)
+only_memory terms past p workers (Err drive.ChainFull) crew room h = absurd (has_room past room h.1)
+only_memory terms past p workers (Err drive.OutOfMemory) crew room h = refl
 
 -- ---- the answer of the rules
 
@@ -78,16 +77,21 @@ module _ (terms : Terms) (past : Option SessionValue) (p : Project) (s : Session
         (law terms.profile p answer).1 same;
   }
 
-module _ (law : AnswerLaw) (terms : Terms) (past : Option (Arc SessionValue Global)) (p : Project) (workers : ℕ) (s : SessionValue) (r : Reports)
-    (next : StandsApart queries (session_in past) s → IsNextSession queries terms (session_in past) p s) where
-  pub next_by_rules : StandsApart queries (session_in past) s → IsNextByRules terms (session_in past) p s
-  next_by_rules apart = of_the_rules terms (session_in past) p s (next apart) law
+module _ (law : AnswerLaw) (terms : Terms) (past : Option SessionValue) (p : Project) (workers : ℕ) where
+  -- the session of a run that stands apart is the next one
+  pub next_by_rules : (run : Result (SessionValue × Reports) DriveFault) → IfOk run (λ done. StandsApart queries past done.0 → IsNextSession queries terms past p done.0)
+      → IfOk (made_in run) (λ s. StandsApart queries past s → IsNextByRules terms past p s)
+  next_by_rules (Ok done) next = λ apart. of_the_rules terms past p done.0 (next apart) law
+  next_by_rules (Err fault) next = tt
 
-  pub made_over : IsSession s → IsSessionOf queries terms (session_in past) p workers s r
-      → IsMadeOver terms (session_in past) p s
-  made_over session of = record {
-    history = of.history;
-    events = of.events;
-    answered = closed_answered p s session _ of.events.closing.closed;
-    by_rules = next_by_rules;
+  -- and it is made over the previous one
+  pub made_over : (run : Result (SessionValue × Reports) DriveFault) → DriveGives queries terms past p workers run
+      → IfOk run (λ done. StandsApart queries past done.0 → IsNextSession queries terms past p done.0) → IfOk (made_in run) IsSession
+      → IfOk (made_in run) (IsMadeOver terms past p)
+  made_over (Ok done) gives next session = record {
+    history = gives.2.history;
+    events = gives.2.events;
+    answered = closed_answered p done.0 session _ gives.2.events.closing.closed;
+    by_rules = λ apart. of_the_rules terms past p done.0 (next apart) law;
   }
+  made_over (Err fault) gives next session = tt

@@ -1,5 +1,5 @@
 -- The session that comes next, and the answer that a session records.
-use Rattle.std.specs.Prelude.{◌≡◌, ℕ, List, Option, Some, string_bytes}
+use Rattle.std.specs.Prelude.{◌≡◌, ℕ, List, Option, Some, Result, Ok, Err, string_bytes}
 use Rattle.item_ids.specs.declared.key.Key.TheVariants.{Answer}
 use Rattle.mj_answer.specs.AnswerValues.{AnswerValue}
 use Rattle.result_bytes.specs.declared.value.Value.TheVariants as values
@@ -11,6 +11,8 @@ use Rattle.sessions.specs.Sessions.{Entry, SessionValue, entry_at, session_in}
 use Rattle.graph_rules.specs.Steps.{Event}
 use Rattle.next_sessions.specs.Nexts.{StandsApart, IsNextSession}
 use Rattle.mini_java.specs.Sessions.{AreEventsOf}
+use Rattle.mini_java.specs.DriveFault.{DriveFault}
+use Rattle.mini_java.specs.Reports.{Reports}
 use Rattle.session_cache.specs.Starts.{IsLastChain, IsStart, IsStartBehind}
 use Rattle.session_cache.specs.declared.start.LastChain.{LastChain}
 use Rattle.session_cache.specs.declared.start.Start.{Start}
@@ -62,3 +64,8 @@ pub record IsMadeOver (terms : Terms) (past : Option SessionValue) (p : Project)
 -- the session comes where it is to begin
 abbrev pub IsNextAt : Terms → Beginning → Project → SessionValue → Type 0
 IsNextAt terms b p s = IsMadeOver terms (session_in b.past) p s
+
+-- the session of a run, or why there is none
+abbrev pub made_in : Result (SessionValue × Reports) DriveFault → Result SessionValue DriveFault
+made_in (Ok run) = Ok run.0
+made_in (Err fault) = Err fault

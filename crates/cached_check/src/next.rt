@@ -1,13 +1,13 @@
 //! The session that comes next.
 ghost use Rattle.std.specs.Prelude.{◌≡◌, ◌<◌, IfOk, IfErr, IfSome};
 ghost use Rattle.session_cache.specs.Names.{most};
-ghost use Rattle.sessions.specs.Sessions.{session_in};
+ghost use Rattle.sessions.specs.Sessions.{IsSession, session_in};
 ghost use Rattle.mini_java.specs.Sessions.{IsCrew};
 ghost use Rattle.query_rules.specs.Queries.{queries};
 ghost use Rattle.next_sessions.specs.Nexts.{StandsApart};
-ghost use Rattle.cached_check.specs.Checks.{IsMadeOver, IsNextByRules};
+ghost use Rattle.cached_check.specs.Checks.{IsMadeOver, IsNextByRules, made_in};
 
-use mini_java::{DriveFault, Open, changed_files, run_session_alone, run_session_as};
+use mini_java::{DriveFault, Open, Reports, changed_files, run_session_alone, run_session_as};
 use mj_rules::answer_laws;
 use named_files::Project;
 use sessions::{Session, Terms};
@@ -35,39 +35,12 @@ pub fn next_session<T: Threads + Wait + Sync>(
         → IsNextByRules terms (session_in past) project.now s) }
     ensures memory { IfErr result (λ fault. fault ≡ DriveFault.OutOfMemory) }
 {
-    match workers_for(alloc, &past, project, terms, workers) {
-        Ok(workers) => made_by(rt, alloc, past, project, terms, workers),
-        Err(AllocError) => Err(DriveFault::OutOfMemory),
-    }
-}
-
-/// The same session, made by just so many workers.
-#[tactic(auto, using(crate::proofs::Answered::only_memory))]
-fn made_by<T: Threads + Wait + Sync>(
-    rt: &T,
-    alloc: Global,
-    past: Option<Arc<Session>>,
-    project: &Project,
-    terms: Terms,
-    workers: usize,
-) -> Result<Session, DriveFault>
-    requires crew { IsCrew workers }
-    requires room { IfSome (session_in past) (λ s. s.number < most) }
-    ensures made { IfOk result (IsMadeOver terms (session_in past) project.now) }
-    ensures next { IfOk result (λ s. StandsApart queries (session_in past) s
-        → IsNextByRules terms (session_in past) project.now s) }
-    ensures memory { IfErr result (λ fault. fault ≡ DriveFault.OutOfMemory) }
-{
+    let Ok(workers) = workers_for(alloc, &past, project, terms, workers) else {
+        return Err(DriveFault::OutOfMemory);
+    };
     // The answer that the queries mean is that of the rules.
     answer_laws();
-    match run_session_as(rt, alloc, past, project, terms, workers, &Open) {
-        Ok((session, _)) => {
-            // A session keeps in its type what its records are.
-            let _records = session.records();
-            Ok(session)
-        }
-        Err(fault) => Err(fault),
-    }
+    session_of(run_session_as(rt, alloc, past, project, terms, workers, &Open))
 }
 
 /// The same session, made by one worker. It starts no thread, and waits for none.
@@ -85,7 +58,15 @@ pub fn next_session_alone(
 {
     // The answer that the queries mean is that of the rules.
     answer_laws();
-    match run_session_alone(alloc, past, project, terms, &Open) {
+    session_of(run_session_alone(alloc, past, project, terms, &Open))
+}
+
+// The session of a run, or why there is none.
+fn session_of(run: Result<(Session, Reports), DriveFault>) -> Result<Session, DriveFault>
+    ensures same { result ≡ made_in run }
+    ensures session { IfOk result IsSession }
+{
+    match run {
         Ok((session, _)) => {
             // A session keeps in its type what its records are.
             let _records = session.records();

@@ -7,9 +7,10 @@ ghost use Rattle.command_line.specs.Program.{options_app, profile_rule, program_
 
 use crate::asked::Subcommand;
 use crate::help;
-use crate::help::{PURPOSE, STATUSES, VERSION, files, outcome, purpose, value_name};
+use crate::help::{PURPOSE, STATUSES, files, outcome, purpose, value_name};
 use clap::{Arg, ArgAction, Command, value_parser};
 use std::alloc::{AllocError, Global};
+use version::VERSION;
 
 /// The program's name, which stands for the first argument if there is none.
 pub(crate) const PROGRAM: &str = "mjrg";

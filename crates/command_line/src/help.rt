@@ -7,9 +7,6 @@ use code_words::concat_sentences;
 pub(crate) const PURPOSE: &str =
     "Check MiniJava projects, from scratch or session by session, and audit chains of session files";
 
-/// The version of the program, the forms of the session files that it reads and writes, and the profiles of the language.
-pub(crate) const VERSION: &str = "0.1.0\nsession files: forms 1 and 2\nlanguage: profiles 1 and 2";
-
 /// What stands below the program's help.
 pub(crate) const STATUSES: &str = "\
 Standard output has the answer. Standard error has the diagnostics and the counts, or why there is

@@ -24,7 +24,7 @@ pub fn changed_files(
     profile: Profile,
     project: &Project,
 ) -> Result<usize, AllocError>
-    ensures { IfOk result (λ count. count ≡ changed_since (option_copied past) profile project.now) }
+    ensures { IfOk result (λ count. count ≡ changed_since (option_copied past.entry) profile project.now) }
 {
     let files = project.files();
     match past {

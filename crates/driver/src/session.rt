@@ -50,7 +50,7 @@ pub fn drive<
     gate: &G,
 ) -> Result<(Session, Reports), DriveFault>
     requires { F.IsAlwaysCallable make.now }
-    ensures gives { DriveGives R.queries first_terms (session_in prev) project.now crew.workers
+    ensures gives { DriveGives R.queries first_terms (session_in prev) project.now crew.entry.workers
         result }
     ensures next { IfOk result (λ done. StandsApart R.queries (session_in prev) done.0
         → IsNextSession R.queries first_terms (session_in prev) project.now done.0) }
@@ -81,7 +81,7 @@ pub fn drive_as<
 ) -> Result<(Session, Reports), DriveFault>
     requires { F.IsAlwaysCallable make.now }
     ensures gives { DriveGives R.queries basis.terms (session_in basis.past) project.now
-        crew.workers result }
+        crew.entry.workers result }
     // A session that stands apart from the previous one is the next session.
     ensures next { IfOk result (λ done. StandsApart R.queries (session_in basis.past) done.0
         → IsNextSession R.queries basis.terms (session_in basis.past) project.now done.0) }

@@ -6,7 +6,7 @@ ghost use Rattle.named_files.specs.Projects.{source_view, sources_view, IsProjec
 ghost use Rattle.file_index.specs.Reading.{IsStop, tokens_or_none};
 ghost use Rattle.mj_rules.specs.Sentences.{file_of, trees_of};
 
-use file_index::{ReadFile, read};
+use file_index::{ReadFile, read_over};
 use mj_lexer::{LexFault, Token, lex};
 use mj_tree::FileTree;
 use named_files::Project;
@@ -112,47 +112,46 @@ pub fn cut(alloc: Global, text: &[u8]) -> Result<Vec<Token>, AllocError>
     }
 }
 
-/// Reads a file: its text and its tree, if it is a sentence.
+/// Reads a file: its text, its tree, if it is a sentence, and its tokens, in the room of this vector.
 fn read_source<'a>(
     alloc: Global,
     file: &'a (String, Vec<u8>),
-) -> Result<(ReadText<'a>, Option<FileTree>), AllocError>
+    room: Vec<Token>,
+) -> Result<(ReadText<'a>, Option<FileTree>, Vec<Token>), AllocError>
     ensures text { IfOk result (λ r. r.0 ≡ source_view file.now) }
     ensures tree { IfOk result (λ r.
         option_map file_view r.1 ≡ file_of (source_view file.now).bytes) }
 {
     let (_, bytes) = file;
-    let found = read(alloc, bytes)?;
-    let ReadFile {
-        tokens: _,
-        tree,
-        stop,
-    } = found;
+    let found = read_over(alloc, bytes, room)?;
+    let ReadFile { tokens, tree, stop } = found;
     let text = ReadText {
         file,
         tokens: None,
         stop,
     };
-    Ok((text, tree))
+    Ok((text, tree, tokens))
 }
 
-/// Reads a file, and adds its text and its tree.
+/// Reads a file, and adds its text and its tree. Its tokens take the room of this vector, which is handed back for the
+/// next file.
 fn add_source<'a>(
     alloc: Global,
     file: &'a (String, Vec<u8>),
+    room: Vec<Token>,
     texts: &mut Vec<ReadText<'a>>,
     trees: &mut Vec<Option<FileTree>>,
-) -> Result<(), AllocError>
+) -> Result<Vec<Token>, AllocError>
     ensures texts { OnOk result (texts.new.items ≡ texts.old.items ++ source_view file.now ∷ []) }
     ensures trees { OnOk result (files_view trees.new.items
         ≡ files_view trees.old.items ++ file_of (source_view file.now).bytes ∷ []) }
 {
     texts.reserve(1)?;
     trees.reserve(1)?;
-    let (text, tree) = read_source(alloc, file)?;
+    let (text, tree, tokens) = read_source(alloc, file, room)?;
     texts.push_reserved(text);
     trees.push_reserved(tree);
-    Ok(())
+    Ok(tokens)
 }
 
 /// Reads these files, and adds their texts and their trees to lists that have none.
@@ -161,27 +160,36 @@ fn add_sources<'a>(
     files: &'a [(String, Vec<u8>)],
     texts: &mut Vec<ReadText<'a>>,
     trees: &mut Vec<Option<FileTree>>,
-) -> Result<(), AllocError>
+) -> Result<Vec<Token>, AllocError>
     requires texts { texts.old.items ≡ [] }
     requires trees { trees.old.items ≡ [] }
     ensures texts { OnOk result (texts.new.items ≡ sources_view files.now) }
     ensures trees { OnOk result (files_view trees.new.items ≡ trees_of (sources_view files.now)) }
 {
+    let mut room = Vec::new(alloc);
     for file in files {
-        add_source(alloc, file, texts, trees)?;
+        room = add_source(alloc, file, room, texts, trees)?;
     }
-    Ok(())
+    room.clear();
+    Ok(room)
 }
 
 /// A project with the tree of each file, without its tokens. Contracts see the files.
 pub struct ReadProject<'a> {
     texts: Vec<ReadText<'a>>,
     trees: Vec<Option<FileTree>>,
+    /// The room of the files' tokens. It is kept as long as the trees: once so large a block is freed, glibc takes later
+    /// ones from its heap, and when one of these is freed it joins all the small ones that are free.
+    room: Vec<Token>,
 }
 
 impl Drop for ReadProject<'_> {
     fn drop(self) {
-        let ReadProject { texts: _, trees: _ } = self;
+        let ReadProject {
+            texts: _,
+            trees: _,
+            room: _,
+        } = self;
     }
 }
 
@@ -206,8 +214,8 @@ impl<'a> ReadProject<'a> {
     {
         let mut texts = Vec::new(alloc);
         let mut trees = Vec::new(alloc);
-        add_sources(alloc, project.files(), &mut texts, &mut trees)?;
-        Ok(ReadProject { texts, trees })
+        let room = add_sources(alloc, project.files(), &mut texts, &mut trees)?;
+        Ok(ReadProject { texts, trees, room })
     }
 
     /// The tree of each file, if it is a sentence.

@@ -9,5 +9,5 @@ mod terminals;
 mod text;
 
 pub use index::TokenIndex;
-pub use reading::{ReadFile, read};
+pub use reading::{ReadFile, read, read_over};
 pub use text::LinedText;

@@ -4,7 +4,7 @@ ghost use Rattle.mj_lexer.specs.declared.lexer.LexFault.TheVariants as lexing;
 ghost use Rattle.mj_expressions.specs.declared.fault.ParseFault.TheVariants as parsing;
 ghost use Rattle.file_index.specs.Reading.{IsReading, IsTreeOf, IsTokenStop, lexing_stop, token_start};
 
-use mj_lexer::{LexFault, Token, lex};
+use mj_lexer::{LexFault, Token, lex_over};
 use mj_parser::{ParseFault, parse};
 use mj_tree::FileTree;
 use std::alloc::{AllocError, Global};
@@ -101,7 +101,14 @@ fn read_tokens(alloc: Global, tokens: Vec<Token>, end: usize) -> Result<ReadFile
 pub fn read(alloc: Global, bytes: &[u8]) -> Result<ReadFile, AllocError>
     ensures { IfOk result (IsReading bytes.now) }
 {
-    match lex(alloc, bytes) {
+    read_over(alloc, bytes, Vec::new(alloc))
+}
+
+/// Reads a file's bytes, and puts its tokens in place of those of a vector, whose room they take.
+pub fn read_over(alloc: Global, bytes: &[u8], room: Vec<Token>) -> Result<ReadFile, AllocError>
+    ensures { IfOk result (IsReading bytes.now) }
+{
+    match lex_over(alloc, bytes, room) {
         Ok(tokens) => read_tokens(alloc, tokens, bytes.len()),
         Err(fault) => without_tokens(alloc, fault),
     }

@@ -3,12 +3,13 @@ use Rattle.std.specs.Prelude.{◌≡◌, ◌⊎◌, ◌∷◌, ℕ, List, [], Op
 use Rattle.audit_graph.specs.declared.fault.AuditFault.{AuditFault}
 use Rattle.audit_replay.specs.Audits.{AreApart, HaveFiles, last_entry}
 use Rattle.graph_rules.specs.Next.{AreSources}
-use Rattle.mini_java.specs.Headline.{ChainRefuses, ChainRefusesAgainst, IsAcceptedAgainst, IsAcceptedChain, IsOfTheRules}
+use Rattle.mini_java.specs.Headline.{IsOfTheRules}
 use Rattle.named_files.specs.Projects.{SourceFile}
 use Rattle.packed_files.specs.Runs.{packed_runs}
 use Rattle.profiles.specs.declared.profile.Profile.{Profile}
 use Rattle.reports.specs.Auditing.{AreAcceptedTexts}
 use Rattle.reports.specs.ChainWords.{chain_words}
+use Rattle.reports.specs.Chains.{IsAcceptedOver, RefusesOver}
 use Rattle.reports.specs.Refusals.{refused_line}
 use Rattle.reports.specs.declared.auditing.AuditTexts.{AuditTexts}
 use Rattle.result_bytes.specs.declared.value.Value.{Value}
@@ -22,18 +23,6 @@ abbrev pub AreSourcesIn : List ℕ → Option (List SourceFile) → Type 0
 AreSourcesIn [] project = project ≡ None
 AreSourcesIn (b ∷ bytes) (Some files) = IsProjectIn (b ∷ bytes) files
 AreSourcesIn (b ∷ bytes) None = ⊥
-
--- the files are accepted, and if there is a project the last session is one of just its files
-abbrev pub IsAcceptedOver : Option (List SourceFile) → List (List ℕ) → Profile → Value → ℕ → ℕ
-    → Type 0
-IsAcceptedOver None files profile v sessions runs = IsAcceptedChain files profile v sessions runs
-IsAcceptedOver (Some project) files profile v sessions runs =
-    IsAcceptedAgainst project files profile v sessions runs
-
--- the files are refused, or if there is a project the last session isn't one of just its files
-abbrev pub RefusesOver : Option (List SourceFile) → List (List ℕ) → AuditFault → Type 0
-RefusesOver None files fault = ChainRefuses files fault
-RefusesOver (Some project) files fault = ChainRefusesAgainst project files fault
 
 -- If no two different results that the sessions of these files record share a fingerprint, the answer
 -- is the one that the static rules of the last one's profile give its files.

@@ -9,4 +9,3 @@ pub mod Scratching
 pub mod Stopping
 pub mod Telling
 pub mod Terms
-pub mod Version

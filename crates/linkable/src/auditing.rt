@@ -1,7 +1,8 @@
 //! The audit of a chain of sessions.
 ghost use Rattle.std.specs.Prelude.{◌≡◌, ◌⊎◌, IfOk, IfErr, map};
 ghost use Rattle.std.specs.Arc.{arc_value};
-ghost use Rattle.linkable.specs.Auditing.{AreSourcesIn, IsAcceptedOver, IsByTheRules, RefusesOver, TellsAccepted, TellsAudit, TellsRefused};
+ghost use Rattle.reports.specs.Chains.{IsAcceptedOver, RefusesOver};
+ghost use Rattle.linkable.specs.Auditing.{AreSourcesIn, IsByTheRules, TellsAccepted, TellsAudit, TellsRefused};
 ghost use Rattle.linkable.specs.Projects.{IsNoProjectIn};
 ghost use Rattle.linkable.specs.Stopping.{Says};
 ghost use Rattle.linkable.specs.Telling.{told_of};

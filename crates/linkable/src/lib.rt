@@ -2,11 +2,12 @@
 #![tactic(auto)]
 
 ghost use Rattle.std.specs.Prelude.{◌≡◌, ◌≢◌, [], nat_lt};
+ghost use Rattle.version.specs.Text.{text_of_version};
 ghost use Rattle.linkable.specs.Auditing.{TellsAudit};
 ghost use Rattle.linkable.specs.Checking.{TellsCheck, given};
 ghost use Rattle.linkable.specs.Handing.{IsHandedOver, IsOutOfMemory, IsSessionOutOfMemory, Writes, WritesSession, buffers};
 ghost use Rattle.linkable.specs.Scratching.{TellsScratch};
-ghost use Rattle.linkable.specs.Version.{version_told};
+ghost use Rattle.linkable.specs.Telling.{text_alone};
 
 mod auditing;
 mod chains;
@@ -18,7 +19,6 @@ mod scratching;
 mod stopping;
 mod terms;
 mod told;
-mod version;
 
 use auditing::audit;
 use checking::check;
@@ -26,14 +26,14 @@ pub use handing::{Outcome, SessionOutcome};
 use handing::{hand_over, hand_over_session, hand_over_text};
 use scratching::scratch;
 use std::alloc::{AllocError, Global};
-use version::VERSION;
+use version::version_text;
 
 /// Writes what `mjrg --version` prints.
 #[unsafe(no_mangle)]
 pub extern "C" fn mjrg_version(out: &mut [u8]) -> Outcome
-    ensures { IsHandedOver version_told result out.old out.new [] [] }
+    ensures { IsHandedOver (text_alone text_of_version) result out.old out.new [] [] }
 {
-    hand_over_text(VERSION, out)
+    hand_over_text(version_text(), out)
 }
 
 /// Checks the project of the files that these bytes are, by the rules of the profile of this number, from scratch. `out`

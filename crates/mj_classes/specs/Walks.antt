@@ -22,6 +22,11 @@ IsChainOf cs c classes end =
 abbrev pub IsChainAt : List ClassDecl → ℕ → List ClassDecl → EndOf → Type 0
 IsChainAt cs at classes end = (c : Name) → place cs c ≡ Some at → IsChainOf cs c classes end
 
+-- the chain of the class at this place has this end
+abbrev pub IsChainEndAt : List ClassDecl → ℕ → EndOf → Type 0
+IsChainEndAt cs at end =
+    (c : Name) → place cs c ≡ Some at → option_map (λ chain. chain.1) (chain_of cs c) ≡ Some end
+
 -- how a chain ends at a class of this superclass, which isn't declared
 abbrev pub straight_end : Option Name → EndOf
 straight_end None = Top

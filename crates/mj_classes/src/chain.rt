@@ -5,7 +5,7 @@ ghost use Rattle.mj_classes.specs.Declarations.{decl, place, superclass_places};
 ghost use Rattle.mj_classes.specs.Chains.{chain_of, ancestry};
 ghost use Rattle.mj_members.specs.Classes.{classes_view, class_ref_view};
 ghost use Rattle.mj_classes.specs.Classes.{end_view};
-ghost use Rattle.mj_classes.specs.Walks.{IsFirstPlace, IsChainAt, IsTurn, IsEndAt, Stretch, LeadsUp, declaring, straight_end};
+ghost use Rattle.mj_classes.specs.Walks.{IsFirstPlace, IsChainAt, IsChainEndAt, IsTurn, IsEndAt, Stretch, LeadsUp, declaring, straight_end};
 
 use crate::declarations::Declarations;
 use mj_members::ClassRef;
@@ -46,22 +46,21 @@ impl<'a> Declarations<'a> {
             ≡ filter has_members (ancestry (declared_in self.now) name.now))) }
     {
         match self.place(name) {
-            Some(first) => Ok(Some(self.climb(alloc, first)?)),
+            Some(first) => Ok(Some(self.chain_at(alloc, first)?)),
             None => Ok(None),
         }
     }
 
-    /// How the chain of a class ends, or `None` if the class isn't declared.
-    pub fn chain_end(&self, name: &Name) -> Option<End<'a>>
-        ensures { option_map end_view result
-            ≡ option_map (λ chain. chain.1) (chain_of (declared_in self.now) name.now) }
+    /// How the chain of the class at this place ends, the first one of its name.
+    pub fn chain_end_at(&self, first: usize) -> End<'a>
+        requires { IsFirstPlace (declared_in self.now) first }
+        ensures { IsChainEndAt (declared_in self.now) first (end_view result) }
     {
-        let first = self.place(name)?;
-        Some(self.end_at(self.turn_at(first)))
+        self.end_at(self.turn_at(first))
     }
 
-    /// The chain of the class at this place.
-    fn climb(&self, alloc: Global, first: usize) -> Result<ClassChain<'a>, AllocError>
+    /// The chain of the class at this place, the first one of its name.
+    pub fn chain_at(&self, alloc: Global, first: usize) -> Result<ClassChain<'a>, AllocError>
         requires { IsFirstPlace (declared_in self.now) first }
         ensures { IfOk result (λ c.
             IsChainAt (declared_in self.now) first

@@ -65,15 +65,16 @@ fn fault(problem: Problem, at: usize) -> LexFault
     }
 }
 
-/// The tokens from the front of the text to its end.
-fn tokens(alloc: Global, text: &[u8]) -> Result<Vec<Token>, LexFault>
+/// The tokens from the front of the text to its end, in the room of this vector.
+fn tokens(alloc: Global, text: &[u8], room: Vec<Token>) -> Result<Vec<Token>, LexFault>
     ensures found { IfOk result (λ v. Lexes text.now v.items) }
     ensures fault { IfErr result (λ e. e ≢ OutOfMemory → Breaks text.now e) }
 {
     if text.len() > LIMIT {
         return Err(LexFault::FileTooLong);
     }
-    let mut tokens = Vec::new(alloc);
+    let mut tokens = room;
+    tokens.clear();
     let mut at = 0;
     loop {
         let here = read_front(alloc, &text[at..])?;
@@ -108,5 +109,21 @@ pub fn lex(alloc: Global, text: &[u8]) -> Result<Vec<Token>, LexFault>
     ensures tokens { IfOk result (λ v. lexing_of text.now ≡ Ok v.items) }
     ensures refusal { IfErr result (λ e. e ≢ OutOfMemory → lexing_of text.now ≡ Err e) }
 {
-    tokens(alloc, text)
+    lex_over(alloc, text, Vec::new(alloc))
+}
+
+/// The same tokens, in place of those of a vector, whose room they take.
+pub fn lex_over(alloc: Global, text: &[u8], room: Vec<Token>) -> Result<Vec<Token>, LexFault>
+    ensures found { IfOk result (λ v. Lexes text.now v.items) }
+    ensures only { (others : List Token) → Lexes text.now others
+        → MatchResult result (λ v. v.items ≡ others) (λ e. e ≡ OutOfMemory) }
+    ensures fault { IfErr result (λ e. e ≢ OutOfMemory → Breaks text.now e) }
+    ensures fault_only { (f : LexFault) → Breaks text.now f
+        → MatchResult result (λ _. ⊥) (λ e. (e ≡ f) ⊎ (e ≡ OutOfMemory)) }
+
+    // The same by the function that computes them.
+    ensures tokens { IfOk result (λ v. lexing_of text.now ≡ Ok v.items) }
+    ensures refusal { IfErr result (λ e. e ≢ OutOfMemory → lexing_of text.now ≡ Err e) }
+{
+    tokens(alloc, text, room)
 }

@@ -9,6 +9,6 @@ mod token;
 
 pub use front::{Front, GREATEST_LITERAL, Problem};
 pub use laws::{front_laws, lexing_laws};
-pub use lexer::{LexFault, lex};
+pub use lexer::{LexFault, lex, lex_over};
 pub use place::line_col;
 pub use token::{Terminal, Token, TokenKind};

@@ -1,7 +1,7 @@
 //! The checker that follows the rules from scratch.
 ghost use Rattle.std.specs.Prelude.{◌≡◌, ◌↔◌, ℕ, List, Some, IfOk, Contains};
 ghost use Rattle.ordered_names.specs.Order.{NameBefore, IsAscendingBy};
-ghost use Rattle.mj_classes.specs.Declarations.{decl};
+ghost use Rattle.mj_classes.specs.Declarations.{decl, place};
 ghost use Rattle.mj_members.specs.Classes.{class_ref_view};
 ghost use Rattle.mj_classes.specs.Classes.{files_view};
 ghost use Rattle.mj_classes.specs.Index.{declared_in};
@@ -24,24 +24,23 @@ use ordered_names::Name;
 use profiles::Profile;
 use std::alloc::{AllocError, Global};
 
-/// The answer for a class, the first one of its name.
+/// The answer for the class at this place, the first one of its name.
 fn class_answer(
     alloc: Global,
     profile: Profile,
     tables: &MemberTables,
+    at: usize,
     class: &ClassRef,
 ) -> Result<ClassAnswer, AllocError>
     requires first { decl (declared_in tables.now) (class_ref_view class.now).name
         ≡ Some (class_ref_view class.now) }
+    requires at { place (declared_in tables.now) (class_ref_view class.now).name ≡ Some at }
     requires fit { NamesFitIn (declared_in tables.now) }
     ensures name { IfOk result (λ answer. answer.name ≡ (class_ref_view class.now).name) }
     ensures rules { IfOk result (IsAnswerFor profile (declared_in tables.now)) }
 {
-    let Some(members) = tables.table(class.name()) else {
-        unreachable!();
-    };
-    let table = class_table(alloc, members)?;
-    let mut faults = declaration_faults(alloc, profile, tables, class)?;
+    let table = class_table(alloc, tables.table_at(at))?;
+    let mut faults = declaration_faults(alloc, profile, tables, at, class)?;
     add_body_faults(alloc, &mut faults, tables, class)?;
     let name = class.name().copy(alloc)?;
     Ok(ClassAnswer::new(name, table, fault_set(faults)))
@@ -76,10 +75,11 @@ fn class_answers(
     let names = declared_names(alloc, declarations)?;
     let mut answers = Vec::new(alloc);
     for name in &names {
-        let Some(class) = declarations.find(name) else {
+        let Some(at) = declarations.place(name) else {
             unreachable!();
         };
-        answers.push(class_answer(alloc, profile, tables, &class)?)?;
+        let class = declarations.class_at(at);
+        answers.push(class_answer(alloc, profile, tables, at, &class)?)?;
     }
     Ok(answers)
 }

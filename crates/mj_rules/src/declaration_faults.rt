@@ -1,10 +1,11 @@
 //! The diagnostics of the declarations of a class.
-ghost use Rattle.std.specs.Prelude.{◌≡◌, ◌++◌, map, Some, IfOk, OnOk, is_some};
+ghost use Rattle.std.specs.Prelude.{◌≡◌, ◌++◌, ℕ, List, map, Some, IfOk, OnOk, is_some};
 ghost use Rattle.mj_tree.specs.Views.{method_view};
-ghost use Rattle.mj_classes.specs.Declarations.{decl};
+ghost use Rattle.mj_classes.specs.Declarations.{decl, place};
 ghost use Rattle.mj_classes.specs.Chains.{chain_of};
 ghost use Rattle.mj_members.specs.Classes.{class_ref_view};
 ghost use Rattle.mj_classes.specs.Index.{declared_in};
+ghost use Rattle.mj_classes.specs.Walks.{IsFirstPlace};
 ghost use Rattle.named_files.specs.Repeats.{repeats};
 ghost use Rattle.mj_rules.specs.Worlds.{sig_of};
 ghost use Rattle.mj_rules.specs.FaultLists.{each_numbered, superclass_faults, chain_faults, is_undeclared, field_faults, same_type, same_types, same_signature, accepts, may_override, override_faults, method_faults_of, rest_of, nearest_sig, declaration_faults};
@@ -56,17 +57,20 @@ pub fn add_superclass_fault(
     Ok(())
 }
 
-/// Adds the diagnostic of a class whose chain runs into a cycle.
+/// Adds the diagnostic of the class at this place, the first one of its name, if its chain runs into a cycle.
 pub fn add_chain_fault(
     faults: &mut Vec<Diagnostic>,
     declarations: &Declarations,
-    class: &Name,
+    at: usize,
 ) -> Result<(), AllocError>
+    requires { IsFirstPlace (declared_in declarations.now) at }
     ensures { OnOk result
-        (faults.new.items
-        ≡ faults.old.items ++ chain_faults (chain_of (declared_in declarations.now) class.now)) }
+        ((c : List ℕ)
+        → place (declared_in declarations.now) c ≡ Some at
+        → faults.new.items
+        ≡ faults.old.items ++ chain_faults (chain_of (declared_in declarations.now) c)) }
 {
-    if let Some(End::Repeated(_)) = declarations.chain_end(class) {
+    if let End::Repeated(_) = declarations.chain_end_at(at) {
         faults.push(Diagnostic {
             place: Place::Class,
             code: Code::E202,
@@ -276,22 +280,24 @@ pub fn add_methods(
     Ok(())
 }
 
-/// The diagnostics of the declarations of a class, the first one of its name.
+/// The diagnostics of the declarations of the class at this place, the first one of its name.
 pub fn declaration_faults(
     alloc: Global,
     profile: Profile,
     tables: &MemberTables,
+    at: usize,
     class: &ClassRef,
 ) -> Result<Vec<Diagnostic>, AllocError>
-    requires { decl (declared_in tables.now) (class_ref_view class.now).name
+    requires first { decl (declared_in tables.now) (class_ref_view class.now).name
         ≡ Some (class_ref_view class.now) }
+    requires at { place (declared_in tables.now) (class_ref_view class.now).name ≡ Some at }
     ensures { IfOk result (λ faults.
         faults.items ≡ declaration_faults profile (declared_in tables.now) (class_ref_view class.now)) }
 {
     let declarations = tables.declarations();
     let mut faults = Vec::new(alloc);
     add_superclass_fault(&mut faults, declarations, class)?;
-    add_chain_fault(&mut faults, declarations, class.name())?;
+    add_chain_fault(&mut faults, declarations, at)?;
     add_fields(alloc, &mut faults, declarations, class.fields())?;
     add_methods(alloc, profile, &mut faults, tables, class, class.methods())?;
     Ok(faults)

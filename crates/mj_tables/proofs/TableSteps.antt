@@ -40,7 +40,7 @@ place_read cs places i p h lt is = subst (IsFirstPlace cs) (get_or_from_slice_ge
 
 -- ---- the class at a place
 
-named_at : (cs : List ClassDecl) (at : ℕ) (k : ClassDecl) (c : Name) → place cs c ≡ Some at → slice_get cs at ≡ Some k → (k.name ≡ c) × (decl cs c ≡ Some k)
+pub named_at : (cs : List ClassDecl) (at : ℕ) (k : ClassDecl) (c : Name) → place cs c ≡ Some at → slice_get cs at ≡ Some k → (k.name ≡ c) × (decl cs c ≡ Some k)
 named_at cs at k c e here =
     let j = place_class cs c at e in
     let same : j.0 ≡ k = same_Some j.0 k (sym j.1 ∙ here) in

@@ -139,7 +139,7 @@ fn table_at<'a>(
             return table_over(alloc, &class, inherited);
         }
     }
-    table_along(alloc, declarations, &class)
+    table_along(alloc, declarations, at)
 }
 
 /// The table of a class whose superclass has this one.
@@ -163,20 +163,16 @@ fn table_over<'a>(
     })
 }
 
-/// The table of a class, made along its chain.
+/// The table of the class at this place, made along its chain.
 fn table_along<'a>(
     alloc: Global,
     declarations: &Declarations<'a>,
-    class: &ClassRef<'a>,
+    at: usize,
 ) -> Result<MemberTable<'a>, AllocError>
-    requires { decl (declared_in declarations.now) (class_ref_view class.now).name
-        ≡ Some (class_ref_view class.now) }
-    ensures { IfOk result
-        (IsTableOf (declared_in declarations.now) (class_ref_view class.now).name) }
+    requires { IsFirstPlace (declared_in declarations.now) at }
+    ensures { IfOk result (IsTableAt (declared_in declarations.now) at) }
 {
-    let Some(chain) = declarations.chain(alloc, class.name())? else {
-        unreachable!();
-    };
+    let chain = declarations.chain_at(alloc, at)?;
     Ok(MemberTable {
         fields: field_table(alloc, &chain.classes)?,
         methods: method_table(alloc, &chain.classes)?,

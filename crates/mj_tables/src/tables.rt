@@ -2,7 +2,8 @@
 ghost use Rattle.std.specs.Prelude.{◌≡◌, None, IfOk, MatchOption};
 ghost use Rattle.mj_classes.specs.Declarations.{decl};
 ghost use Rattle.mj_classes.specs.Index.{declared_in};
-ghost use Rattle.mj_tables.specs.Tables.{IsTableOf};
+ghost use Rattle.mj_classes.specs.Walks.{IsFirstPlace};
+ghost use Rattle.mj_tables.specs.Tables.{IsTableOf, IsTableAt};
 
 use crate::making::{MemberTable, all_tables};
 use mj_classes::Declarations;
@@ -51,6 +52,17 @@ impl<'a> MemberTables<'a> {
         ensures { result.now ≡ self.now }
     {
         &self.declarations
+    }
+
+    /// The table of the class at this place, the first one of its name.
+    pub fn table_at(&self, at: usize) -> &MemberTable<'a>
+        requires { IsFirstPlace (declared_in self.now) at }
+        ensures { IsTableAt (declared_in self.now) at result.now }
+    {
+        let Some(table) = &self.tables[at] else {
+            unreachable!();
+        };
+        table
     }
 
     /// The table of a class, or `None` if it isn't declared.

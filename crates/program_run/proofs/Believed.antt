@@ -27,9 +27,9 @@ by_rules asked report a b c d is written = record {
     numbered = is.profile;
     files = is.checks.files;
     named = is.checks.named;
-    answer = is.checks.tells.answer;
-    rules = (is.checks.next.by_rules stands).rules is.checks.tells.answer is.checks.tells.recorded;
-    text_is = is.checks.tells.text;
+    answer = is.checks.tells.tells.answer;
+    rules = (is.checks.next.by_rules stands).rules is.checks.tells.tells.answer is.checks.tells.tells.recorded;
+    text_is = ap (λ (r : Report). string_bytes r.answer) is.checks.tells.report_is ∙ is.checks.tells.tells.text;
   };
 }
 

@@ -20,7 +20,9 @@ use Rattle.command_line.specs.declared.asked.Words.TheVariants as asked
 use Rattle.command_line.specs.declared.asked.AuditWords.{AuditWords}
 use Rattle.sessions.specs.Sessions.{SessionValue}
 use Rattle.program_run.specs.Audits.{AuditFails, IsStopped, SourcesFail, StopsAt, file_names, source_names}
-use Rattle.program_run.specs.Endings.{status_of_answer, status_of_failure}
+use Rattle.reports.specs.declared.auditing.AuditTexts.{AuditTexts}
+use Rattle.reports.specs.declared.texts.AnswerTexts.{AnswerTexts}
+use Rattle.program_run.specs.Endings.{accepted_report, answer_report, status_of_answer, status_of_failure}
 use Rattle.program_run.specs.Failures.{AreUnshown, CheckFails, FailsAt, LastFails, MayFail, ShowFails, unwritten_path}
 use Rattle.program_run.specs.Shows.{AreLastOfMany, LacksNamedIn, LacksRecord, RefusesOneOf, index_named, of_words}
 use Rattle.program_run.specs.Unread.{AreUnread, IsUnreadFile, NamesFail, cache_failure}
@@ -32,9 +34,16 @@ use Rattle.program_run.specs.declared.report.Report.{Report}
 use Rattle.program_run.specs.declared.report.Status.{Status}
 use Rattle.program_run.specs.declared.report.Status.TheVariants as status
 
-pub has_answer : (clean : Bool) (s : Status) → s ≡ status_of_answer clean → IsAnswerStatus s
+has_answer : (clean : Bool) (s : Status) → s ≡ status_of_answer clean → IsAnswerStatus s
 has_answer true s e = inl e
 has_answer false s e = inr e
+
+-- reports on answers and accepted chains have an answer
+pub answer_ends : (texts : AnswerTexts) (report : Report) → report ≡ answer_report texts → IsAnswerStatus report.status
+answer_ends texts report is = has_answer texts.clean report.status (ap (λ (r : Report). r.status) is)
+
+pub accepted_ends : (texts : AuditTexts) (report : Report) → report ≡ accepted_report texts → IsAnswerStatus report.status
+accepted_ends texts report is = inl (ap (λ (r : Report). r.status) is)
 
 -- ---- ends
 

@@ -1,4 +1,3 @@
-pub mod Added
 pub mod Believed
 pub mod Failures
 pub mod Opened

@@ -5,7 +5,8 @@ use Rattle.named_files.specs.Projects.{SourceFile, names_of}
 use Rattle.profiles.specs.declared.profile.Profile.{Profile}
 use Rattle.mini_java.specs.AnswerValues.{IsAnswerValue}
 use Rattle.result_bytes.specs.declared.value.Value.{Value}
-use Rattle.program_run.specs.Audits.{IsAcceptedOver, IsProjectOf}
+use Rattle.reports.specs.Chains.{IsAcceptedOver}
+use Rattle.program_run.specs.Audits.{IsProjectOf}
 
 -- a project of some names is that of these names
 pub project_named : (names : List (List ℕ)) (files : List SourceFile) → names ≢ [] → names_of files ≡ names → IsProjectOf names (Some files)

@@ -4,9 +4,7 @@ use Rattle.std.specs.Io.KnownBytes.{Appends}
 use Rattle.std.specs.List.{AllByRecursion}
 use Rattle.std.specs.declared.alloc.Global.{Global}
 use Rattle.named_files.specs.Projects.{SourceFile, names_of}
-use Rattle.mj_rules.specs.AnswerWords.{AnswerValue, text_of}
 use Rattle.result_bytes.specs.declared.value.Value.{Value}
-use Rattle.result_bytes.specs.declared.value.Value.TheVariants as values
 use Rattle.sessions.specs.Sessions.{IsSession, SessionValue}
 use Rattle.sessions.specs.Spelling.{file_of}
 use Rattle.audit_graph.specs.declared.fault.AuditFault.{AuditFault}
@@ -14,15 +12,18 @@ use Rattle.audit_graph.specs.declared.fault.AuditFault.TheVariants as chain
 use Rattle.session_file.specs.declared.fault.FileFault.TheVariants as file
 use Rattle.profiles.specs.declared.profile.Profile.{Profile}
 use Rattle.cached_check.specs.Lines.{counts_of}
-use Rattle.mini_java.specs.Headline.{ChainRefuses, ChainRefusesAgainst, IsAcceptedAgainst, IsAcceptedChain}
+use Rattle.mini_java.specs.Headline.{ChainRefuses}
 use Rattle.mini_java.specs.Taken.{HasTaken}
 use Rattle.mini_java.specs.declared.auditor.ChainAuditor.{ChainAuditor}
 use Rattle.command_line.specs.declared.asked.AuditWords.{AuditWords}
+use Rattle.reports.specs.Auditing.{AreAcceptedTexts}
+use Rattle.reports.specs.Chains.{IsAcceptedOver, RefusesOver}
+use Rattle.reports.specs.declared.auditing.AuditTexts.{AuditTexts}
+use Rattle.program_run.specs.Endings.{accepted_report}
 use Rattle.program_run.specs.Unread.{NamesFail}
 use Rattle.program_run.specs.declared.failure.Failure.{Failure}
 use Rattle.program_run.specs.declared.failure.Failure.TheVariants as failure
 use Rattle.program_run.specs.declared.report.Report.{Report}
-use Rattle.program_run.specs.declared.report.Status.TheVariants as status
 
 -- ---- what is said of each file
 
@@ -48,37 +49,17 @@ told_of false names sessions = []
 
 -- ---- accepted
 
--- accepted: 3 sessions, 22 runs
-abbrev pub accepted_line : ℕ → ℕ → List ℕ
-accepted_line sessions runs =
-    codes "accepted: " ++ decimal sessions ++ codes " sessions, " ++ decimal runs
-    ++ codes " runs\n"
-
 -- The text of an answer is on standard output, and the line on standard error.
 pub record IsAcceptedReport (v : Value) (sessions runs : ℕ) (report : Report) : Type 0 where
-  pub answer : AnswerValue
-  pub value : v ≡ values.Answer answer
-  pub text : string_bytes report.answer ≡ text_of answer
-  pub line : string_bytes report.notes ≡ accepted_line sessions runs
-  pub status : report.status ≡ status.Clean
+  pub texts : AuditTexts
+  pub tells : AreAcceptedTexts v sessions runs texts
+  pub report_is : report ≡ accepted_report texts
 
 -- the project of the sources of these names, if there are any
 abbrev pub IsProjectOf : List (List ℕ) → Option (List SourceFile) → Type 0
 IsProjectOf [] project = project ≡ None
 IsProjectOf (name ∷ names) (Some project) = names_of project ≡ name ∷ names
 IsProjectOf (name ∷ names) None = ⊥
-
--- the files are accepted, and if there is a project the last session is one of just its files
-abbrev pub IsAcceptedOver : Option (List SourceFile) → List (List ℕ) → Profile → Value → ℕ → ℕ
-    → Type 0
-IsAcceptedOver None files profile v sessions runs = IsAcceptedChain files profile v sessions runs
-IsAcceptedOver (Some project) files profile v sessions runs =
-    IsAcceptedAgainst project files profile v sessions runs
-
--- the files are refused, or if there is a project the last session isn't one of just its files
-abbrev pub RefusesOver : Option (List SourceFile) → List (List ℕ) → AuditFault → Type 0
-RefusesOver None files fault = ChainRefuses files fault
-RefusesOver (Some project) files fault = ChainRefusesAgainst project files fault
 
 -- the names of an audit: those of its files, and those of its sources
 abbrev pub file_names : AuditWords → List (List ℕ)

@@ -1,31 +1,26 @@
 -- What a check over a cache reports.
-use Rattle.std.specs.Prelude.{◌≡◌, ◌++◌, ◌+◌, ℕ, Bool, List, map, string_bytes}
+use Rattle.std.specs.Prelude.{◌≡◌, ◌+◌, ℕ, Bool, List, map, string_bytes}
 use Rattle.named_files.specs.Projects.{SourceFile, names_of}
-use Rattle.mj_rules.specs.AnswerWords.{AnswerValue, text_of}
 use Rattle.profiles.specs.Profiles.{profile_number}
 use Rattle.sessions.specs.Sessions.{SessionValue}
 use Rattle.sessions.specs.Terms.{form_number}
 use Rattle.sessions.specs.declared.terms.Terms.{Terms}
 use Rattle.command_line.specs.declared.asked.CheckWords.{CheckWords}
-use Rattle.cached_check.specs.Checks.{IsAnswerIn, IsBeginning, IsNextAt}
-use Rattle.cached_check.specs.Lines.{summary_line}
+use Rattle.cached_check.specs.Checks.{IsBeginning, IsNextAt}
 use Rattle.cached_check.specs.declared.beginning.Beginning.{Beginning}
-use Rattle.program_run.specs.Endings.{status_of_answer}
-use Rattle.diagnostic_lines.specs.Lines.{IsFaultText, is_clean}
+use Rattle.reports.specs.Checking.{AreSessionTexts}
+use Rattle.reports.specs.declared.texts.AnswerTexts.{AnswerTexts}
+use Rattle.program_run.specs.Endings.{answer_report}
 use Rattle.program_run.specs.declared.report.Report.{Report}
 
 -- The text of the session's answer, and behind the notes a line for each of its diagnostics with
 -- its place in the files, and with its sentence and its source line if they are wanted, and a line on
--- the session.
+-- the session; and the status of the answer.
 pub record TellsSession (files : List SourceFile) (messages : Bool) (notes : List ℕ)
     (session : SessionValue) (report : Report) : Type 0 where
-  pub answer : AnswerValue
-  pub recorded : IsAnswerIn session answer
-  pub text : string_bytes report.answer ≡ text_of answer
-  pub lines : List ℕ
-  pub places : IsFaultText messages files answer lines
-  pub told : string_bytes report.notes ≡ notes ++ lines ++ summary_line session
-  pub status : report.status ≡ status_of_answer (is_clean answer)
+  pub texts : AnswerTexts
+  pub tells : AreSessionTexts files messages notes session texts
+  pub report_is : report ≡ answer_report texts
 
 -- A report on files of these names by the session of these terms that comes where the cache of this
 -- folder lets it begin.

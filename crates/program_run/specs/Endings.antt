@@ -3,8 +3,11 @@ use Rattle.std.specs.Prelude.{ℕ, Bool, true, false, [], ◌∷◌, Contains}
 use Rattle.audit_graph.specs.declared.fault.AuditFault.TheVariants as chain
 use Rattle.named_files.specs.declared.project.ProjectFault.TheVariants as project
 use Rattle.session_file.specs.declared.fault.FileFault.TheVariants as file
+use Rattle.reports.specs.declared.auditing.AuditTexts.{AuditTexts}
+use Rattle.reports.specs.declared.texts.AnswerTexts.{AnswerTexts}
 use Rattle.program_run.specs.declared.failure.Failure.{Failure}
 use Rattle.program_run.specs.declared.failure.Failure.TheVariants as failure
+use Rattle.program_run.specs.declared.report.Report.{Report}
 use Rattle.program_run.specs.declared.report.Status.{Status}
 use Rattle.program_run.specs.declared.report.Status.TheVariants as status
 use Rattle.command_line.specs.declared.asked.WordsFault.TheVariants as words
@@ -13,6 +16,19 @@ use Rattle.command_line.specs.declared.asked.WordsFault.TheVariants as words
 abbrev pub status_of_answer : Bool → Status
 status_of_answer true = status.Clean
 status_of_answer false = status.Diagnostics
+
+-- the texts of an answer, and its status
+abbrev pub answer_report : AnswerTexts → Report
+answer_report texts = record {
+  notes = texts.notes;
+  answer = texts.answer;
+  status = status_of_answer texts.clean;
+}
+
+-- the texts of an accepted chain, which is clean
+abbrev pub accepted_report : AuditTexts → Report
+accepted_report texts =
+    record { notes = texts.notes; answer = texts.answer; status = status.Clean }
 
 -- help that was asked for is clean, and every other failure but out of memory is refused
 abbrev pub status_of_failure : Failure → Status

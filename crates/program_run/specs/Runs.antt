@@ -5,8 +5,6 @@ use Rattle.std.specs.declared.alloc.Global.{Global}
 use Rattle.named_files.specs.Projects.{SourceFile, names_of}
 use Rattle.profiles.specs.Profiles.{profile_number}
 use Rattle.profiles.specs.declared.profile.Profile.{Profile}
-use Rattle.mj_rules.specs.AnswerWords.{AnswerValue, text_of}
-use Rattle.mj_rules.specs.Rules.{Rules}
 use Rattle.audit_graph.specs.declared.fault.AuditFault.{AuditFault}
 use Rattle.code_words.specs.Explained.{explained, first_unknown}
 use Rattle.command_line.specs.CommandLine.{Asks}
@@ -16,12 +14,15 @@ use Rattle.command_line.specs.declared.asked.ScratchWords.{ScratchWords}
 use Rattle.command_line.specs.declared.asked.Subcommand.{Subcommand}
 use Rattle.command_line.specs.declared.asked.Words.{Words}
 use Rattle.command_line.specs.declared.asked.Words.TheVariants as words
-use Rattle.diagnostic_lines.specs.Lines.{IsFaultText, is_clean}
+use Rattle.reports.specs.ChainWords.{chain_words}
+use Rattle.reports.specs.Refusals.{refused_line}
+use Rattle.reports.specs.Scratching.{AreScratchTexts}
+use Rattle.reports.specs.declared.texts.AnswerTexts.{AnswerTexts}
 use Rattle.program_run.specs.Audits.{AuditFails, AuditsTo, StopsAt}
 use Rattle.program_run.specs.Checks.{ChecksAsked}
-use Rattle.program_run.specs.Endings.{status_of_answer}
+use Rattle.program_run.specs.Endings.{answer_report}
 use Rattle.program_run.specs.Failures.{MayFail}
-use Rattle.program_run.specs.Refusals.{IsFailureText, chain_words, refused_line, unreadable_line}
+use Rattle.program_run.specs.Refusals.{IsFailureText, unreadable_line}
 use Rattle.program_run.specs.Shows.{SaysWhy, ShowsLast}
 use Rattle.program_run.specs.declared.failure.Failure.{Failure}
 use Rattle.program_run.specs.declared.failure.Failure.TheVariants as failure
@@ -36,12 +37,10 @@ pub record ReportsOn (asked : ScratchWords) (report : Report) : Type 0 where
   pub profile : Profile
   pub numbered : profile_number profile ≡ asked.profile
   pub files : List SourceFile
-  pub answer : AnswerValue
   pub named : names_of files ≡ map string_bytes asked.files.items
-  pub rules : Rules profile files answer
-  pub text : string_bytes report.answer ≡ text_of answer
-  pub lines : IsFaultText asked.messages files answer (string_bytes report.notes)
-  pub status : report.status ≡ status_of_answer (is_clean answer)
+  pub texts : AnswerTexts
+  pub tells : AreScratchTexts profile asked.messages files texts
+  pub report_is : report ≡ answer_report texts
 
 -- The text on each of these codes stands on standard output alone.
 pub record Explains (asked : List (String Global)) (report : Report) : Type 0 where

@@ -2,12 +2,10 @@
 ghost use Rattle.std.specs.Prelude.{◌≡◌, ◌⊎◌, [], OnOk, codes, string_bytes};
 ghost use Rattle.std.specs.Io.KnownBytes.{Appends};
 ghost use Rattle.std.specs.IoError.{error_kind};
-ghost use Rattle.program_run.specs.Endings.{status_of_answer};
-ghost use Rattle.diagnostic_lines.specs.Lines.{is_clean};
+ghost use Rattle.program_run.specs.Endings.{accepted_report, answer_report, status_of_answer};
 ghost use Rattle.program_run.specs.Runs.{IsWritten, status_number};
 
-use diagnostic_lines::is_clean;
-use mj_rules::Answer;
+use reports::{AnswerTexts, AuditTexts};
 use std::alloc::Global;
 use std::io;
 use std::io::{ErrorKind, Write};
@@ -28,11 +26,11 @@ pub enum Status {
 }
 
 impl Status {
-    /// The end of a run with this answer.
-    pub fn of_answer(answer: &Answer) -> Status
-        ensures { result ≡ status_of_answer (is_clean answer.now) }
+    /// The end of a run with an answer, which has a diagnostic or none.
+    fn of_answer(clean: bool) -> Status
+        ensures { result ≡ status_of_answer clean }
     {
-        if is_clean(answer) {
+        if clean {
             Status::Clean
         } else {
             Status::Diagnostics
@@ -58,6 +56,34 @@ pub struct Report {
 }
 
 impl Report {
+    /// An answer.
+    pub fn on_answer(texts: AnswerTexts) -> Self
+        ensures { result ≡ answer_report texts }
+    {
+        let AnswerTexts {
+            notes,
+            answer,
+            clean,
+        } = texts;
+        Report {
+            notes,
+            answer,
+            status: Status::of_answer(clean),
+        }
+    }
+
+    /// An accepted chain.
+    pub fn on_chain(texts: AuditTexts) -> Self
+        ensures { result ≡ accepted_report texts }
+    {
+        let AuditTexts { notes, answer } = texts;
+        Report {
+            notes,
+            answer,
+            status: Status::Clean,
+        }
+    }
+
     /// What was asked for.
     pub fn clean(alloc: Global, text: String) -> Self
         ensures notes { string_bytes result.notes ≡ [] }

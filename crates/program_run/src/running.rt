@@ -11,9 +11,7 @@ ghost use Rattle.program_run.specs.Refusals.{IsFailureText};
 ghost use Rattle.program_run.specs.Runs.{EndsWithAnswer, IsAnswerStatus, Prints, PrintsPlain, PrintsRefusal, ReportsAsked, ReportsFailure, ReportsRefusal, ReportsUnreadable, TellsHelp};
 
 use crate::failure::Failure;
-use crate::refusals::{
-    chain_refusal, file_refusal, no_record, refusal_text, unreadable, unwritten,
-};
+use crate::refusals::{file_refusal, no_record, unreadable, unwritten};
 use crate::report::{Report, Status, deliver, no_memory};
 use crate::subcommands::auditing::audit;
 use crate::subcommands::checking::check;
@@ -23,6 +21,7 @@ use crate::subcommands::showing::show;
 use crate::subcommands::why::why;
 use code_words::unknown_text;
 use command_line::{Words, WordsFault, words};
+use reports::{chain_refusal, refusal_text};
 use std::alloc::{AllocError, Global};
 use std::io::Write;
 use std::rt::Files;
@@ -95,7 +94,7 @@ fn report_of<R: Files + AllocGlobal, T: Threads + Wait + Sync, E: Write>(
 }
 
 // What the arguments ask for.
-#[tactic(auto, using(crate::proofs::Failures::has_answer, crate::proofs::Failures::refused_stops))]
+#[tactic(auto, using(crate::proofs::Failures::answer_ends, crate::proofs::Failures::accepted_ends, crate::proofs::Failures::refused_stops))]
 fn perform<R: Files + AllocGlobal, T: Threads + Wait + Sync, E: Write>(
     rt: &R,
     threads: &T,

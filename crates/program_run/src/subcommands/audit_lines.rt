@@ -1,6 +1,6 @@
-//! The lines on an audit: on each file that is taken, and on the whole chain.
+//! The line on a file that an audit takes.
 ghost use Rattle.std.specs.Prelude.{◌≡◌, IfOk, string_bytes};
-ghost use Rattle.program_run.specs.Audits.{accepted_line, progress_line};
+ghost use Rattle.program_run.specs.Audits.{progress_line};
 
 use cached_check::counts_text;
 use sessions::Session;
@@ -19,18 +19,5 @@ pub(crate) fn progress_text(
     let counts = counts_text(alloc, session)?;
     let mut text = String::new(alloc);
     writeln!(text, "{name}: session {number}, {counts}")?;
-    Ok(text)
-}
-
-/// The line on a chain that is accepted.
-pub(crate) fn accepted_text(
-    alloc: Global,
-    sessions: usize,
-    runs: u128,
-) -> Result<String, AllocError>
-    ensures { IfOk result (λ text. string_bytes text ≡ accepted_line sessions runs) }
-{
-    let mut text = String::new(alloc);
-    writeln!(text, "accepted: {sessions} sessions, {runs} runs")?;
     Ok(text)
 }

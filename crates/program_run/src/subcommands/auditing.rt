@@ -2,22 +2,23 @@
 ghost use Rattle.std.specs.Prelude.{◌≡◌, ◌++◌, ◌∷◌, [], ℕ, List, None, IfOk, IfErr, OnOk, map, string_bytes};
 ghost use Rattle.std.specs.Arc.{arc_value};
 ghost use Rattle.std.specs.Io.KnownBytes.{Appends};
-ghost use Rattle.mini_java.specs.AnswerValues.{IsAnswerValue};
 ghost use Rattle.audit_replay.specs.Audits.{last_of};
 ghost use Rattle.mini_java.specs.Taken.{HasTaken};
-ghost use Rattle.program_run.specs.Audits.{AuditFails, AuditsTo, FailsBehind, IsAcceptedOver, IsAcceptedReport, IsProjectOf, IsStopped, RefusesOver, SourcesFail, TakeFails, TakesMore, TakesNext, TellFails, TookAll, failure_of, told_last};
+ghost use Rattle.reports.specs.Chains.{IsAcceptedOver, RefusesOver};
+ghost use Rattle.program_run.specs.Audits.{AuditFails, AuditsTo, FailsBehind, IsProjectOf, IsStopped, SourcesFail, TakeFails, TakesMore, TakesNext, TellFails, TookAll, failure_of, told_last};
 
 use crate::failure::Failure;
 use crate::files::{failure_to_read, read_files};
-use crate::report::{Report, Status, write};
-use crate::subcommands::audit_lines::{accepted_text, progress_text};
+use crate::report::{Report, write};
+use crate::subcommands::audit_lines::progress_text;
 use audit_graph::AuditFault;
 use command_line::AuditWords;
 use devices::ReaderFeed;
-use mini_java::{Audited, ChainAuditor, audited_answer};
-use mj_rules::{Project, render};
+use mini_java::{Audited, ChainAuditor};
+use mj_rules::Project;
+use reports::accepted_texts;
 use session_file::FileFault;
-use std::alloc::{AllocError, Global};
+use std::alloc::Global;
 use std::fs;
 use std::io::{BufReader, Read, Write};
 use std::rt::Files;
@@ -43,7 +44,7 @@ pub(crate) fn audit<R: Files + AllocGlobal, E: Write>(
     let project = project_of(rt, sources)?;
     let auditor = take_files(rt, files, progress, err)?;
     match end_over(auditor, &project) {
-        Ok(audited) => Ok(accepted_report(rt.alloc(), &audited)?),
+        Ok(audited) => Ok(Report::on_chain(accepted_texts(rt.alloc(), &audited)?)),
         Err(fault) => Err(Failure::Chain(fault)),
     }
 }
@@ -192,17 +193,4 @@ fn tell<E: Write>(
         Ok(()) => Ok(()),
         Err(_) => Err(Failure::Untold),
     }
-}
-
-// What is written of an accepted chain.
-fn accepted_report(alloc: Global, audited: &Audited) -> Result<Report, AllocError>
-    requires { IsAnswerValue (arc_value audited.now.answer) }
-    ensures { IfOk result (IsAcceptedReport (arc_value audited.now.answer)
-        audited.now.sessions audited.now.runs) }
-{
-    Ok(Report {
-        notes: accepted_text(alloc, audited.sessions, audited.runs)?,
-        answer: render(alloc, audited_answer(audited))?,
-        status: Status::Clean,
-    })
 }

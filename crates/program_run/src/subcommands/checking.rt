@@ -1,25 +1,23 @@
 //! The check of a project over a cache.
 ghost use Rattle.std.specs.Prelude.{◌≡◌, ◌≤◌, IfOk, IfErr, map, string_bytes};
 ghost use Rattle.named_files.specs.Projects.{names_of};
-ghost use Rattle.cached_check.specs.Checks.{RecordsAnswer};
 ghost use Rattle.command_line.specs.Runnable.{IsCheckable};
-ghost use Rattle.program_run.specs.Checks.{ChecksAsked, ChecksTo, TellsSession};
+ghost use Rattle.program_run.specs.Checks.{ChecksAsked, ChecksTo};
 ghost use Rattle.program_run.specs.Failures.{CheckFails};
 
 use crate::failure::Failure;
 use crate::files::read_files;
-use crate::report::{Report, Status};
+use crate::report::Report;
 use crate::terms::{form_of, profile_of};
-use cached_check::{Beginning, answer_in, begin, next_session, summary_text};
+use cached_check::{Beginning, begin, next_session};
 use command_line::CheckWords;
-use diagnostic_lines::fault_text_of;
-use mj_rules::{Project, render};
+use mj_rules::Project;
+use reports::session_texts;
 use session_cache::{CacheWriteFault, write_file};
-use sessions::{Session, Terms, share};
-use std::alloc::{AllocError, Global};
+use sessions::{Terms, share};
 use std::mem::forget;
 use std::rt::Files;
-use std::sync::{Arc, Wait};
+use std::sync::Wait;
 use std::thread::Threads;
 
 /// The options of a check, but for its cache.
@@ -93,7 +91,7 @@ fn check_project<R: Files + AllocGlobal, T: Threads + Wait + Sync>(
     };
     let followed = share(&past)?;
     let session = next_session(threads, alloc, past, project, terms, jobs)?;
-    let report = session_report(alloc, project, messages, notes.as_str(), &session)?;
+    let texts = session_texts(alloc, project, messages, notes.as_str(), &session)?;
     match write_file(rt, threads, cache, place, &session, jobs) {
         Ok(()) => {}
         Err(CacheWriteFault::CannotWrite(path)) => return Err(Failure::CannotWrite(notes, path)),
@@ -102,29 +100,5 @@ fn check_project<R: Files + AllocGlobal, T: Threads + Wait + Sync>(
     // (the run ends here: the memory of both sessions is left to the system, which frees all of it at once)
     forget(session);
     forget(followed);
-    Ok(report)
-}
-
-// The report on a session: the notes, the diagnostics of its answer, and how many records were executed and green.
-fn session_report(
-    alloc: Global,
-    project: &Project,
-    messages: bool,
-    notes: &str,
-    session: &Session,
-) -> Result<Report, AllocError>
-    requires { RecordsAnswer session.now }
-    ensures { IfOk result (TellsSession project.now messages notes.now session.now) }
-{
-    let Some(answer) = answer_in(session) else {
-        unreachable!();
-    };
-    let mut told = String::from_str(alloc, notes)?;
-    told.push_str(fault_text_of(alloc, project, answer, messages)?.as_str())?;
-    told.push_str(summary_text(alloc, session)?.as_str())?;
-    Ok(Report {
-        notes: told,
-        answer: render(alloc, answer)?,
-        status: Status::of_answer(answer),
-    })
+    Ok(Report::on_answer(texts))
 }

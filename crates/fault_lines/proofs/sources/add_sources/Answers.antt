@@ -7,8 +7,8 @@ loop-file-preserved c =
     let files = c.args.files.now in
     let at = c.loop-file.file-index in
     record {
-      texts = texts_more files at c.file-item.result c.loop-file-test.true c.file-item.is _ _ c.loop-file.invariant.texts c.in_ok-add_source.ensures.texts;
-      trees = trees_more files at c.file-item.result c.loop-file-test.true c.file-item.is _ _ c.loop-file.invariant.trees c.in_ok-add_source.ensures.trees;
+      texts = texts_more files at c.file-item.result c.loop-file-test.true c.file-item.is _ _ c.loop-file.invariant.texts c.in_ok-room.ensures.texts;
+      trees = trees_more files at c.file-item.result c.loop-file-test.true c.file-item.is _ _ c.loop-file.invariant.trees c.in_ok-room.ensures.trees;
     }
 
 pub returns-clause-texts : goal.returns-clause-texts

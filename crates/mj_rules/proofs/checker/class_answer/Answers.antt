@@ -1,5 +1,4 @@
 use Rattle.std.proofs.Common.{◌≡◌, ◌∙◌, ◌++◌, List, map, sym, ap, subst}
-use Rattle.mj_tree.specs.Trees.{Name}
 use Rattle.mj_answer.specs.declared.diagnostic.Diagnostic.{Diagnostic}
 use Rattle.mj_answer.specs.AnswerValues.{ClassTableValue, ClassAnswerValue}
 use Rattle.mj_answer.specs.Order.{IsAscending}
@@ -17,13 +16,16 @@ use Rattle.mj_rules.proofs.checker.class_answer.Goals as goal
 table_is : (table other : ClassTableValue) → table.fields ≡ other.fields → table.methods ≡ other.methods → table ≡ other
 table_is table other fields methods = λ i. record { fields = fields i; methods = methods i }
 
+pub table_at-requires : goal.table_at-requires
+table_at-requires c = ((class_ref_view c.args.class.now).name, c.requires.at)
+
 pub returns-clause-rules : goal.returns-clause-rules
 returns-clause-rules c =
     let cs = declared_in c.args.tables.now in
     let k = class_ref_view c.args.class.now in
     let listed : c.add_body_faults.new.faults.items ≡ class_faults c.args.profile cs k = c.in_ok-add_body_faults.ensures ∙ ap (λ ds. ds ++ body_faults cs k) c.in_ok-faults.ensures in
-    let name : c.new.result.name ≡ k.name = ap (λ (a : ClassAnswerValue). a.name) c.new.ensures ∙ (c.in_ok-name.ensures ∙ c.name-2.ensures) in
-    let members : IsTableOf cs k.name c.in-Some.members.now = subst (λ (n : Name). IsTableOf cs n c.in-Some.members.now) c.name.ensures (rw c.in-Some.is at c.table.ensures) in
+    let name : c.new.result.name ≡ k.name = ap (λ (a : ClassAnswerValue). a.name) c.new.ensures ∙ (c.in_ok-name.ensures ∙ c.name.ensures) in
+    let members : IsTableOf cs k.name c.table_at.result.now = c.table_at.ensures k.name c.requires.at in
     let fields : c.in_ok-table.table.fields ≡ (table_of cs k.name).fields = c.in_ok-table.ensures.fields ∙ ap (map field_row) members.fields in
     let methods : c.in_ok-table.table.methods ≡ (table_of cs k.name).methods = c.in_ok-table.ensures.methods ∙ ap (map method_row) members.methods in
     let table : c.new.result.table ≡ table_of cs k.name = ap (λ (a : ClassAnswerValue). a.table) c.new.ensures ∙ table_is c.in_ok-table.table (table_of cs k.name) fields methods in

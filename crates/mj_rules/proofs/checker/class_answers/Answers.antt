@@ -1,14 +1,17 @@
-use Rattle.std.proofs.Common.{◌≡◌, ◌↔◌, ℕ, Contains, ◌∙◌, ◌++◌, ◌∷◌, [], ◌<◌, ◌≤◌, List, All, Some, length, map, take, refl, sym, ap, subst, arith, take_all}
+use Rattle.std.proofs.Common.{◌≡◌, ◌↔◌, ℕ, Contains, ◌∙◌, ◌++◌, ◌∷◌, [], ◌<◌, ◌≤◌, List, All, length, map, take, refl, sym, ap, subst, arith, take_all}
+use Rattle.std.specs.Prelude.{slice_get}
 use Rattle.std.proofs.lemmas.Option.{none-some}
 use Rattle.std.proofs.lemmas.List.{take_more, map-append}
 use Rattle.std.proofs.lemmas.List.Elements.{All-push}
 use Rattle.mj_tree.specs.Trees.{Name}
 use Rattle.mj_tree.proofs.Positions.{read_at}
 use Rattle.mj_answer.specs.AnswerValues.{ClassAnswerValue}
-use Rattle.mj_classes.specs.Declarations.{decl}
+use Rattle.mj_classes.specs.Declarations.{decl, place}
 use Rattle.mj_members.specs.Classes.{class_ref_view}
 use Rattle.mj_classes.specs.Index.{declared_in}
-use Rattle.mj_classes.proofs.Climb.{decl_name}
+use Rattle.mj_classes.proofs.Ancestors.{first_within}
+use Rattle.mj_classes.proofs.Places.{place_none}
+use Rattle.mj_tables.proofs.TableSteps.{named_at, first_declared, place_itself}
 use Rattle.mj_rules.specs.FaultLists.{class_names}
 use Rattle.mj_rules.specs.Rules.{IsAnswerFor}
 use Rattle.named_files.proofs.Listed.{contains_at}
@@ -25,20 +28,35 @@ unreachable-requires c =
     let listed : (n : List ℕ) → Contains c.in_ok-names.names.items n ↔ Contains (class_names cs) n = subst (λ d. (n : List ℕ) → Contains c.in_ok-names.names.items n ↔ Contains (class_names (declared_in d)) n) same c.in_ok-names.ensures.same in
     let named = (listed c.name-item.result).0 (rw c.deref-name-items.ensures.value at stands) in
     let k = is_named cs c.name-item.result (decl cs c.name-item.result) refl named in
-    none-some k.0 (c.in_default.ensures ∙ (ap (λ d. decl (declared_in d) c.name-item.result) same ∙ k.1))
+    let none = place_none (declared_in c.declarations-declarations.result.now) c.name-item.result (sym c.in_default.ensures) in
+    none-some k.0 (sym none ∙ (ap (λ d. decl (declared_in d) c.name-item.result) same ∙ k.1))
+
+pub class_at-class-requires : goal.class_at-class-requires
+class_at-class-requires c = first_within (declared_in c.declarations-declarations.result.now) c.in-Some.at (c.name-item.result, sym c.in-Some.ensures)
 
 pub class_answer-requires-clause-first : goal.class_answer-requires-clause-first
 class_answer-requires-clause-first c =
-    let cs = declared_in c.args.tables.now in
-    let here : decl cs c.name-item.result ≡ Some (class_ref_view c.in-Some.class) = ap (λ d. decl (declared_in d) c.name-item.result) (sym c.declarations-declarations.ensures) ∙ sym c.in-Some.ensures in
-    ap (decl cs) (decl_name cs c.name-item.result (class_ref_view c.in-Some.class) here) ∙ here
+    let same = c.declarations-declarations.ensures in
+    let placed = ap (λ d. place (declared_in d) c.name-item.result) (sym same) ∙ sym c.in-Some.ensures in
+    let here = ap (λ d. slice_get (declared_in d) c.in-Some.at) (sym same) ∙ c.class_at-class.ensures in
+    first_declared (declared_in c.args.tables.now) c.in-Some.at (class_ref_view c.class_at-class.result) (c.name-item.result, placed) here
+
+pub class_answer-requires-clause-at : goal.class_answer-requires-clause-at
+class_answer-requires-clause-at c =
+    let same = c.declarations-declarations.ensures in
+    let placed = ap (λ d. place (declared_in d) c.name-item.result) (sym same) ∙ sym c.in-Some.ensures in
+    let here = ap (λ d. slice_get (declared_in d) c.in-Some.at) (sym same) ∙ c.class_at-class.ensures in
+    place_itself (declared_in c.args.tables.now) c.in-Some.at (class_ref_view c.class_at-class.result) c.name-item.result placed here
 
 pub loop-name-preserved : goal.loop-name-preserved
 loop-name-preserved c =
     let cs = declared_in c.args.tables.now in
     let within : c.loop-name.name-index < length c.deref-name-items.result.now = omega arith in
-    let here : decl cs c.name-item.result ≡ Some (class_ref_view c.in-Some.class) = ap (λ d. decl (declared_in d) c.name-item.result) (sym c.declarations-declarations.ensures) ∙ sym c.in-Some.ensures in
-    let name : c.in_ok-class_answer.field-0.name ≡ c.name-item.result = c.in_ok-class_answer.ensures.name ∙ decl_name cs c.name-item.result (class_ref_view c.in-Some.class) here in
+    let same = c.declarations-declarations.ensures in
+    let placed = ap (λ d. place (declared_in d) c.name-item.result) (sym same) ∙ sym c.in-Some.ensures in
+    let here = ap (λ d. slice_get (declared_in d) c.in-Some.at) (sym same) ∙ c.class_at-class.ensures in
+    let named = named_at cs c.in-Some.at (class_ref_view c.class_at-class.result) c.name-item.result placed here in
+    let name : c.in_ok-class_answer.field-0.name ≡ c.name-item.result = c.in_ok-class_answer.ensures.name ∙ named.0 in
     let more = take_more c.deref-name-items.result.now c.loop-name.name-index c.name-item.result within ∙ ap (λ (n : Name). take c.loop-name.name-index c.deref-name-items.result.now ++ n ∷ []) (sym c.name-item.is) in
     record {
       named =

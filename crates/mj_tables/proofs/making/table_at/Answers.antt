@@ -1,10 +1,9 @@
 use Rattle.std.proofs.Common.{◌≡◌, ◌<◌, map, length, arith}
-use Rattle.std.proofs.lemmas.Result.{IfOk-weaker}
 use Rattle.mj_members.specs.Classes.{class_ref_view, field_member_view, method_member_view}
 use Rattle.mj_members.specs.Tables.{fields_over, methods_over}
 use Rattle.mj_classes.specs.Index.{declared_in}
-use Rattle.mj_tables.specs.Tables.{IsTableOf, IsTableAt}
-use Rattle.mj_tables.proofs.TableSteps.{next_within, first_declared, table_here, laid_over, both_ok, read_there}
+use Rattle.mj_tables.specs.Tables.{IsTableAt}
+use Rattle.mj_tables.proofs.TableSteps.{next_within, laid_over, both_ok, read_there}
 use Rattle.mj_tables.proofs.making.table_at.Goals as goal
 
 pub returns-in-Some-tables : goal.returns-in-Some-tables
@@ -18,12 +17,3 @@ returns-in-Some-tables c =
     both_ok (λ t. map field_member_view t.fields.items ≡ fields_over k (map field_member_view inherited.fields.items)) (λ t. map method_member_view t.methods.items ≡ methods_over k (map method_member_view inherited.methods.items))
     (IsTableAt cs c.args.at) c.table_over.result
     (λ t fields methods. laid_over cs c.args.at c.in-Some.above k inherited t c.requires.first c.class_at-class.ensures c.in-Some.ensures right fields methods) c.table_over.ensures.fields c.table_over.ensures.methods
-
-pub table_along-requires : goal.table_along-requires
-table_along-requires c = first_declared (declared_in c.args.declarations.now) c.args.at (class_ref_view c.class_at-class.result) c.requires.first c.class_at-class.ensures
-
-pub returns : goal.returns
-returns c =
-    let cs = declared_in c.args.declarations.now in
-    let k = class_ref_view c.class_at-class.result in
-    IfOk-weaker c.table_along.result (IsTableOf cs k.name) (IsTableAt cs c.args.at) (λ t is. table_here cs c.args.at k t c.class_at-class.ensures is) c.table_along.ensures

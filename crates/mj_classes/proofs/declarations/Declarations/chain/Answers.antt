@@ -6,14 +6,14 @@ use Rattle.mj_classes.proofs.Climb.{has_none}
 use Rattle.mj_classes.proofs.Places.{place_none}
 use Rattle.mj_classes.proofs.declarations.Declarations.chain.Goals as goal
 
-pub climb-requires : goal.climb-requires
-climb-requires c = (c.args.name.now, sym c.in-Some.ensures)
+pub chain_at-requires : goal.chain_at-requires
+chain_at-requires c = (c.args.name.now, sym c.in-Some.ensures)
 
-pub returns-in_ok-climb-in-Some-clause-end : goal.returns-in_ok-climb-in-Some-clause-end
-returns-in_ok-climb-in-Some-clause-end c = sym (c.in_ok-climb-in-Some.ensures c.args.name.now (sym c.in-Some.ensures)).0
+pub returns-in_ok-chain_at-in-Some-clause-end : goal.returns-in_ok-chain_at-in-Some-clause-end
+returns-in_ok-chain_at-in-Some-clause-end c = sym (c.in_ok-chain_at-in-Some.ensures c.args.name.now (sym c.in-Some.ensures)).0
 
-pub returns-in_ok-climb-in-Some-clause-classes : goal.returns-in_ok-climb-in-Some-clause-classes
-returns-in_ok-climb-in-Some-clause-classes c = (c.in_ok-climb-in-Some.ensures c.args.name.now (sym c.in-Some.ensures)).1
+pub returns-in_ok-chain_at-in-Some-clause-classes : goal.returns-in_ok-chain_at-in-Some-clause-classes
+returns-in_ok-chain_at-in-Some-clause-classes c = (c.in_ok-chain_at-in-Some.ensures c.args.name.now (sym c.in-Some.ensures)).1
 
 pub returns-in-None-clause-end : goal.returns-in-None-clause-end
 returns-in-None-clause-end c =

@@ -4,8 +4,8 @@ use Rattle.program_run.specs.Audits.{told_of, file_names}
 use Rattle.program_run.proofs.Sources.{accepted_answer}
 use Rattle.program_run.proofs.subcommands.auditing.audit.Goals as goal
 
-pub accepted_report-requires : goal.accepted_report-requires
-accepted_report-requires g c =
+pub accepted_texts-requires : goal.accepted_texts-requires
+accepted_texts-requires g c =
     let all = c.in_ok-auditor.ensures.taken in
     let audited = c.in-Ok.audited in
     accepted_answer c.in_ok-project.project all.front.files audited.profile (arc_value audited.answer) audited.sessions audited.runs
@@ -31,7 +31,11 @@ returns-in-Ok-clause-reports g c =
         project = c.in_ok-project.project;
         named = c.in_ok-project.ensures.named;
         accepted = c.in-Ok.ensures.accepted all.front.files all.front.taken;
-        written = c.in_ok-accepted_report-in-Ok.ensures;
+        written = record {
+          texts = c.in_ok-accepted_texts-in-Ok.field-0;
+          tells = c.in_ok-accepted_texts-in-Ok.ensures;
+          report_is = c.on_chain.ensures;
+        };
       },
     )
 

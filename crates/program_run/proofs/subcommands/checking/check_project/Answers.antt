@@ -13,7 +13,11 @@ returns-clause-reports g c = record {
   begins = c.in_ok-past.ensures.begins;
   session = c.in_ok-session.session;
   next = c.in_ok-session.ensures.made;
-  tells = rw c.as_str.ensures.value at c.in_ok-report.ensures;
+  tells = record {
+    texts = c.in_ok-texts.texts;
+    tells = rw c.as_str.ensures.value at c.in_ok-texts.ensures;
+    report_is = c.on_answer.ensures;
+  };
 }
 
 pub returns-in_err-past-clause-failed : goal.returns-in_err-past-clause-failed

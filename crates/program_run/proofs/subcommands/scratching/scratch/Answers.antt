@@ -11,12 +11,10 @@ returns-clause-reports g c = record {
   profile = c.profile_of.result;
   numbered = c.profile_of.ensures;
   files = c.in_ok-project.project;
-  answer = c.in_ok-answer.answer;
   named = ap names_of c.in_ok-project.ensures.accepted ∙ names_of_sources _ ∙ c.in_ok-read_files.ensures.named;
-  rules = c.in_ok-answer.ensures;
-  text = c.in_ok-answer_report.ensures.answer;
-  lines = rw c.in_ok-read.ensures at c.in_ok-answer_report.ensures.notes;
-  status = c.in_ok-answer_report.ensures.status;
+  texts = c.in_ok-texts.texts;
+  tells = c.in_ok-texts.ensures;
+  report_is = c.on_answer.ensures;
 }
 
 pub returns-in_err-project-clause-failed : goal.returns-in_err-project-clause-failed

@@ -1,7 +1,7 @@
 use Rattle.mj_members.specs.Classes.{classes_view}
 use Rattle.mj_classes.specs.Classes.{end_view}
 use Rattle.mj_classes.proofs.Keeping.{turn_inside, chain_is}
-use Rattle.mj_classes.proofs.declarations.Declarations.climb.Goals as goal
+use Rattle.mj_classes.proofs.declarations.Declarations.chain_at.Goals as goal
 
 pub end_at-requires : goal.end_at-requires
 end_at-requires c = turn_inside (classes_view c.args.self.now.classes.items) c.requires.0 c.args.first c.turn_at-turn.result c.requires.1 c.turn_at-turn.ensures

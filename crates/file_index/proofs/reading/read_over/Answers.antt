@@ -1,6 +1,6 @@
 use Rattle.std.proofs.Common.{refl}
 use Rattle.file_index.proofs.Readings.{cut_call, uncut_call}
-use Rattle.file_index.proofs.reading.read.Goals as goal
+use Rattle.file_index.proofs.reading.read_over.Goals as goal
 
 pub returns-in-Ok : goal.returns-in-Ok
 returns-in-Ok c = cut_call c.args.bytes.now c.in-Ok.tokens _ c.read_tokens.result c.in-Ok.ensures.tokens refl c.read_tokens.ensures.tokens c.read_tokens.ensures.tree c.read_tokens.ensures.stop

@@ -1,5 +1,5 @@
 use Rattle.mj_lexer.proofs.Lexings.{gives_tokens, gives_fault, only_tokens, only_fault}
-use Rattle.mj_lexer.proofs.lexer.lex.Goals as goal
+use Rattle.mj_lexer.proofs.lexer.lex_over.Goals as goal
 
 pub returns-clause-only : goal.returns-clause-only
 returns-clause-only c = only_tokens _ c.tokens.result c.tokens.ensures.found c.tokens.ensures.fault
