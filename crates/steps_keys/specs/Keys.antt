@@ -27,9 +27,14 @@ class_of (Compile step) = Some step
 class_of (Link step) = Some step
 class_of _ = None
 
--- no key has a second name
+-- no key has a second name; by cases, since proofs of the engine rewrite by it
 abbrev pub member_of : Key → Option (List ℕ)
-member_of _ = None
+member_of Files = None
+member_of (Source file) = None
+member_of Plan = None
+member_of (Compile step) = None
+member_of (Link step) = None
+member_of Answer = None
 
 -- what a key keeps in its type: what names it is a name
 pub record IsKey (key : Key) : Type 0 where

@@ -38,9 +38,14 @@ has_class Compile = true
 has_class Link = true
 has_class _ = false
 
--- no key has a second name
+-- no key has a second name; by cases, since proofs of the engine rewrite by it
 abbrev pub has_member : Kind → Bool
-has_member _ = false
+has_member Files = false
+has_member Source = false
+has_member Plan = false
+has_member Compile = false
+has_member Link = false
+has_member Answer = false
 
 -- no name is missing, and none is one too many
 abbrev pub FitNames : Kind → Option (List ℕ) → Option (List ℕ) → Type 0

@@ -83,7 +83,14 @@ impl Key {
     pub fn member(&self) -> Option<&Name>
         ensures { option_copied result ≡ member_of self.now }
     {
-        None
+        match self {
+            Key::Files
+            | Key::Source(_)
+            | Key::Plan
+            | Key::Compile(_)
+            | Key::Link(_)
+            | Key::Answer => None,
+        }
     }
 
     /// An equal key.
