@@ -11,7 +11,7 @@
  *     PTRDIFF_MAX at most;
  *   - that no buffer overlaps another one or bytes that the call reads, and that during the call nothing else writes any of them,
  *     or reads a buffer;
- *   - that 4 MiB of stack are free (the deepest phrases took 2.2 MiB);
+ *   - that 4 MiB of stack are free (the deepest phrases took 2.1 MiB);
  *   - that malloc, realloc and free come from one allocator, whose blocks are aligned to 16 bytes, or, if they are smaller,
  *     to the greatest power of two that divides their size;
  *   - that no call is made from a signal handler, or in the forked child of a process with threads. */
