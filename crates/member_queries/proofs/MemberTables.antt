@@ -1,12 +1,11 @@
 -- The tables along a chain while they are built, and the order of their rows.
-use Rattle.std.proofs.Common.{◌≡◌, ℕ, ◌+◌, ◌<◌, length, take, drop, get_or, add-one, drop-cons, List, [], ◌∷◌, ◌++◌, map, Option, Some, None, refl, sym, ap, ◌∙◌, subst, append_assoc, append-nil}
+use Rattle.std.proofs.Common.{◌≡◌, ℕ, ◌+◌, ◌<◌, length, drop, get_or, add-one, drop-cons, List, [], ◌∷◌, ◌++◌, map, Option, Some, None, sym, ap, ◌∙◌, subst, append_assoc}
 use Rattle.std.specs.Prelude.{Contains}
-use Rattle.std.specs.Option.{option_or}
 use Rattle.std.specs.List.{AllByRecursion}
 use Rattle.std.specs.List.Sorted.{IsStrictlySortedBy}
-use Rattle.std.specs.Map.{keys_of, values_of}
+use Rattle.std.specs.Map.{keys_of}
 use Rattle.std.specs.FinMap as names
-use Rattle.std.proofs.lemmas.List.{take_more, map-append}
+use Rattle.std.proofs.lemmas.List.{map-append}
 use Rattle.std.proofs.lemmas.Cmp.{nat_list_cmp_total, eq_by_cmp_equiv}
 use Rattle.std.proofs.lemmas.Map.Keys.{IsDistinct-from_sorted}
 use Rattle.std.proofs.lemmas.Map.Lookups.{exact_bytes}
@@ -19,8 +18,8 @@ use Rattle.mj_answer.specs.AnswerValues.{MethodRowValue, ClassTableValue}
 use Rattle.mj_members.specs.Rows.{rows_by, SayAlike}
 use Rattle.mj_members.specs.Tables.{own_rows, firsts}
 use Rattle.mj_classes.specs.Tables.{AreAscending}
-use Rattle.mj_members.proofs.Rows.{name_order, under-append, sorted_rows, values_rows}
-use Rattle.mj_members.proofs.Tables.{by_bytes, under, under_first, firsts_are}
+use Rattle.mj_members.proofs.Rows.{in_front, alike_over}
+use Rattle.mj_members.proofs.Tables.{by_bytes, under, under_first}
 use Rattle.mj_classes.proofs.Tables.{firsts_ascend, all_append, under_lookup, own_named, named_names}
 use Rattle.mj_rules.specs.Tables.{field_row}
 use Rattle.mj_rules.proofs.TableLaws.{ascend_by_names}
@@ -71,28 +70,13 @@ module _ {X : Type 0} (B : X → X → Type 0) where
 
 -- ---- the tables while they are built
 
-along-append : {A : Type 0} (name : A → Name) (own : Option HeaderValue → List A) (ls js : List Link) → rows_along name own (ls ++ js) ≡ rows_along name own ls ++ rows_along name own js
-along-append name own [] js = refl
-along-append name own (l ∷ ls) js = ap (λ rs. own_rows name l.0 (own l.1) ++ rs) (along-append name own ls js) ∙ sym (append_assoc (own_rows name l.0 (own l.1)) (rows_along name own ls) (rows_along name own js))
-
-pub links_more : (ls : List Link) (n : ℕ) (l : Link) → n < length ls → l ≡ get_or ls n l → take (n + 1) ls ≡ take n ls ++ l ∷ []
-links_more ls n l lt is = take_more ls n l lt ∙ ap (λ (x : Link). take n ls ++ x ∷ []) (sym is)
-
--- one class more
-pub link_added : {X A : Type 0} (seen : X → Name × A) (name : A → Name) (own : Option HeaderValue → List A) (rows after : List (Bor Name × X)) (ls more : List Link) (l : Link)
-    → SayAlike (rows_by seen rows) (rows_along name own ls) → SayAlike (rows_by seen after) (rows_by seen rows ++ own_rows name l.0 (own l.1)) → more ≡ ls ++ l ∷ [] → SayAlike (rows_by seen after) (rows_along name own more)
-link_added {X} {A} seen name own rows after ls more l h added is n =
-    let own_rows_here : List (Name × (Name × A)) = own_rows name l.0 (own l.1) in
-    let all : rows_along name own more ≡ rows_along name own ls ++ own_rows_here =
-    ap (rows_along name own) is ∙ (along-append name own ls (l ∷ []) ∙ ap (λ (rs : List (Name × (Name × A))). rows_along name own ls ++ rs) (append-nil own_rows_here)) in
-    added n
-    ∙ (under-append n (rows_by seen rows) own_rows_here ∙ ap (λ o. option_or o (under n own_rows_here)) (h n) ∙ sym (under-append n (rows_along name own ls) own_rows_here))
-    ∙ ap (under n) (sym all)
-
--- the values of a map that says what the headers say
-pub table_is : {X A : Type 0} (seen : X → Name × A) (name : A → Name) (own : Option HeaderValue → List A) (rows : List (Bor Name × X)) (xs : List X) (ls : List Link)
-    → IsStrictlySortedBy name_order (keys_of rows) → SayAlike (rows_by seen rows) (rows_along name own ls) → xs ≡ values_of rows → map seen xs ≡ firsts (rows_along name own ls)
-table_is seen name own rows xs ls up h is = ap (map seen) is ∙ (sym (values_rows seen rows) ∙ firsts_are (rows_by seen rows) (rows_along name own ls) (sorted_rows seen rows up) h)
+-- one class more, from the last one to the first
+pub link_laid : {X A : Type 0} (seen : X → Name × A) (name : A → Name) (own : Option HeaderValue → List A) (rows after : List (Bor Name × X)) (ls : List Link) (n k : ℕ) (l : Link)
+    → n ≡ k + 1 → k < length ls → l ≡ get_or ls k l → SayAlike (rows_by seen rows) (rows_along name own (drop n ls))
+    → SayAlike (rows_by seen after) (own_rows name l.0 (own l.1) ++ rows_by seen rows) → SayAlike (rows_by seen after) (rows_along name own (drop k ls))
+link_laid seen name own rows after ls n k l next lt is h laid =
+    subst (λ (js : List Link). SayAlike (rows_by seen after) (rows_along name own js)) (sym (in_front ls n k l next lt is))
+    (alike_over (rows_by seen after) (rows_by seen rows) (rows_along name own (drop n ls)) (own_rows name l.0 (own l.1)) h laid)
 
 -- ---- the order of what they have
 

@@ -130,41 +130,40 @@ fn ask_links<'c, D: Reader>(
     Ok(links)
 }
 
-/// Adds the fields of a class whose names aren't there yet.
-fn add_fields<'a>(
+/// Lays the fields of a class over these rows. The last one comes first, so that of each name the first one stays.
+fn lay_fields<'a>(
     rows: &mut BTreeMap<&'a Name, FieldMember<'a>>,
     link: &'a Link,
 ) -> Result<(), AllocError>
     ensures { OnOk result
         (SayAlike (field_entries rows.new.entries)
-        (field_entries rows.old.entries
-        ++ own_rows (λ f. f.name) link.now.0 (fields_of_header link.now.1))) }
+        (own_rows (λ f. f.name) link.now.0 (fields_of_header link.now.1)
+        ++ field_entries rows.old.entries)) }
 {
     let owner = link.class();
-    for field in link.fields() {
-        let name = &field.name;
-        if !rows.contains_key(&name) {
-            rows.insert(name, FieldMember { owner, field })?;
-        }
+    let fields = link.fields();
+    for number in (0..fields.len()).rev() {
+        let field = &fields[number];
+        rows.insert(&field.name, FieldMember { owner, field })?;
     }
     Ok(())
 }
 
-/// Adds the methods of a class whose names aren't there yet.
-fn add_methods<'a>(
+/// Lays the methods of a class over these rows. The last one comes first, so that of each name the first one stays.
+fn lay_methods<'a>(
     rows: &mut BTreeMap<&'a Name, MemberName<'a>>,
     link: &'a Link,
 ) -> Result<(), AllocError>
     ensures { OnOk result
         (SayAlike (name_rows rows.new.entries)
-        (name_rows rows.old.entries
-        ++ own_rows (λ n. n) link.now.0 (methods_of_header link.now.1))) }
+        (own_rows (λ n. n) link.now.0 (methods_of_header link.now.1)
+        ++ name_rows rows.old.entries)) }
 {
     let owner = link.class();
-    for name in link.methods() {
-        if !rows.contains_key(&name) {
-            rows.insert(name, MemberName { owner, name })?;
-        }
+    let names = link.methods();
+    for number in (0..names.len()).rev() {
+        let name = &names[number];
+        rows.insert(name, MemberName { owner, name })?;
     }
     Ok(())
 }
@@ -174,8 +173,8 @@ fn field_table<'a>(alloc: Global, links: &'a [Link]) -> Result<Vec<FieldMember<'
     ensures { IfOk result (λ v. map field_member_view v.items ≡ nearest_fields links.now) }
 {
     let mut rows = BTreeMap::new(alloc);
-    for link in links {
-        add_fields(&mut rows, link)?;
+    for number in (0..links.len()).rev() {
+        lay_fields(&mut rows, &links[number])?;
     }
     in_order(alloc, &rows)
 }
@@ -185,8 +184,8 @@ fn method_table<'a>(alloc: Global, links: &'a [Link]) -> Result<Vec<MemberName<'
     ensures { IfOk result (λ v. member_names_view v.items ≡ nearest_methods links.now) }
 {
     let mut rows = BTreeMap::new(alloc);
-    for link in links {
-        add_methods(&mut rows, link)?;
+    for number in (0..links.len()).rev() {
+        lay_methods(&mut rows, &links[number])?;
     }
     in_order(alloc, &rows)
 }

@@ -54,8 +54,8 @@ pub fn field_table<'a>(
         map field_member_view v.items ≡ fields_along (classes_view classes.now)) }
 {
     let mut rows = BTreeMap::new(alloc);
-    for class in classes {
-        add_fields(&mut rows, class)?;
+    for number in (0..classes.len()).rev() {
+        lay_own_fields(&mut rows, &classes[number])?;
     }
     in_order(alloc, &rows)
 }
@@ -70,8 +70,8 @@ pub fn method_table<'a>(
         map method_member_view v.items ≡ methods_along (classes_view classes.now)) }
 {
     let mut rows = BTreeMap::new(alloc);
-    for class in classes {
-        add_methods(&mut rows, class)?;
+    for number in (0..classes.len()).rev() {
+        lay_own_methods(&mut rows, &classes[number])?;
     }
     in_order(alloc, &rows)
 }
@@ -88,8 +88,8 @@ pub fn field_table_over<'a>(
         ≡ fields_over (class_ref_view class.now) (map field_member_view inherited.now)) }
 {
     let mut rows = BTreeMap::new(alloc);
-    add_fields(&mut rows, class)?;
-    add_inherited_fields(&mut rows, inherited)?;
+    lay_fields(&mut rows, inherited)?;
+    lay_own_fields(&mut rows, class)?;
     in_order(alloc, &rows)
 }
 
@@ -105,87 +105,79 @@ pub fn method_table_over<'a>(
         ≡ methods_over (class_ref_view class.now) (map method_member_view inherited.now)) }
 {
     let mut rows = BTreeMap::new(alloc);
-    add_methods(&mut rows, class)?;
-    add_inherited_methods(&mut rows, inherited)?;
+    lay_methods(&mut rows, inherited)?;
+    lay_own_methods(&mut rows, class)?;
     in_order(alloc, &rows)
 }
 
-/// Adds the fields of a class whose names aren't there yet.
-fn add_fields<'a>(
+/// Lays the fields of a class over these rows. The last one comes first, so that of each name the first one stays.
+fn lay_own_fields<'a>(
     rows: &mut BTreeMap<&'a Name, FieldMember<'a>>,
     class: &ClassRef<'a>,
 ) -> Result<(), AllocError>
     ensures { OnOk result
         (SayAlike (field_rows rows.new.entries)
-        (field_rows rows.old.entries
-        ++ own_rows (λ f. f.name) (class_ref_view class.now).name
-        (class_ref_view class.now).fields)) }
+        (own_rows (λ f. f.name) (class_ref_view class.now).name (class_ref_view class.now).fields
+        ++ field_rows rows.old.entries)) }
 {
     let owner = class.name();
-    for field in class.fields() {
-        let name = &field.name;
-        if !rows.contains_key(&name) {
-            rows.insert(name, FieldMember { owner, field })?;
-        }
+    let fields = class.fields();
+    for number in (0..fields.len()).rev() {
+        let field = &fields[number];
+        rows.insert(&field.name, FieldMember { owner, field })?;
     }
     Ok(())
 }
 
-/// Adds the methods of a class whose names aren't there yet.
-fn add_methods<'a>(
+/// Lays the methods of a class over these rows. The last one comes first, so that of each name the first one stays.
+fn lay_own_methods<'a>(
     rows: &mut BTreeMap<&'a Name, MethodMember<'a>>,
     class: &ClassRef<'a>,
 ) -> Result<(), AllocError>
     ensures { OnOk result
         (SayAlike (method_rows rows.new.entries)
-        (method_rows rows.old.entries
-        ++ own_rows (λ m. m.name) (class_ref_view class.now).name
-        (class_ref_view class.now).methods)) }
+        (own_rows (λ m. m.name) (class_ref_view class.now).name (class_ref_view class.now).methods
+        ++ method_rows rows.old.entries)) }
 {
     let owner = class.name();
-    for method in class.methods() {
-        let name = &method.name;
-        if !rows.contains_key(&name) {
-            rows.insert(name, MethodMember { owner, method })?;
-        }
+    let methods = class.methods();
+    for number in (0..methods.len()).rev() {
+        let method = &methods[number];
+        rows.insert(&method.name, MethodMember { owner, method })?;
     }
     Ok(())
 }
 
-/// Adds those of these fields whose names aren't there yet.
-fn add_inherited_fields<'a>(
+/// Lays these fields over the rows. The last one comes first, so that of each name the first one stays.
+fn lay_fields<'a>(
     rows: &mut BTreeMap<&'a Name, FieldMember<'a>>,
-    inherited: &[FieldMember<'a>],
+    fields: &[FieldMember<'a>],
 ) -> Result<(), AllocError>
     ensures { OnOk result
         (SayAlike (field_rows rows.new.entries)
-        (field_rows rows.old.entries
-        ++ named_rows (λ f. f.name) (map field_member_view inherited.now))) }
+        (named_rows (λ f. f.name) (map field_member_view fields.now)
+        ++ field_rows rows.old.entries)) }
 {
-    for member in inherited {
-        let name = &member.field.name;
-        if !rows.contains_key(&name) {
-            rows.insert(name, *member)?;
-        }
+    for number in (0..fields.len()).rev() {
+        let member = fields[number];
+        rows.insert(&member.field.name, member)?;
     }
     Ok(())
 }
 
-/// Adds those of these methods whose names aren't there yet.
-fn add_inherited_methods<'a>(
+/// Lays these methods over the rows. The last one comes first, so that of each name the first one stays.
+fn lay_methods<'a>(
     rows: &mut BTreeMap<&'a Name, MethodMember<'a>>,
-    inherited: &[MethodMember<'a>],
+    methods: &[MethodMember<'a>],
 ) -> Result<(), AllocError>
     ensures { OnOk result
         (SayAlike (method_rows rows.new.entries)
-        (method_rows rows.old.entries
-        ++ named_rows (λ m. m.name) (map method_member_view inherited.now))) }
+        (named_rows (λ m. m.name) (map method_member_view methods.now)
+        ++ method_rows rows.old.entries)) }
 {
-    for member in inherited {
-        let name = &member.method.name;
-        if !rows.contains_key(&name) {
-            rows.insert(name, *member)?;
-        }
+    for number in (0..methods.len()).rev() {
+        let member = methods[number];
+        rows.insert(&member.method.name, member)?;
     }
     Ok(())
 }
