@@ -30,7 +30,7 @@ cause_words (Red e) same = codes "red " ++ key_words e.now ++ result_words same
 cause_words OtherProfile same = codes "other profile" ++ result_words same
 cause_words NothingChanged same = codes "nothing changed" ++ result_words same
 
--- CheckBody M main: red Method M main, same result
+-- Answer: red Source M.java, same result
 abbrev pub why_line : Why → List ℕ
 why_line why =
     key_words why.key.now ++ codes ": " ++ cause_words why.cause why.is_same_result ++ codes "\n"

@@ -21,7 +21,7 @@ escaped text = encode_utf8_all (flat_map escaped_char (chars text))
 abbrev pub label_of : Key → List ℕ
 label_of key = escaped (key_words key)
 
--- `  n5 [label="CheckBody M main", class="executed", fillcolor="#fbe3a6"];` for record 5
+-- `  n5 [label="Answer", class="executed", fillcolor="#fbe3a6"];` for record 5
 abbrev pub node_line : Shade → ℕ → RecordValue → List ℕ
 node_line shade i r =
     codes "  n" ++ decimal i ++ codes " [label=\"" ++ label_of r.key ++ codes "\", class=\""

@@ -31,7 +31,7 @@ abbrev pub and_name : Option (List ℕ) → List ℕ
 and_name None = []
 and_name (Some name) = codes " " ++ name
 
--- the kind, and then the names that the key has: `CheckBody M main`, `Diags M`, `Answer`
+-- the kind, and then the names that the key has, which may be two: `Answer`, `Source M.java`
 abbrev pub key_words : Key → List ℕ
 key_words key = kind_word (kind_of key) ++ and_name (class_of key) ++ and_name (member_of key)
 
@@ -40,7 +40,7 @@ abbrev pub edges_text : List ℕ → List ℕ
 edges_text [] = []
 edges_text (first ∷ others) = decimal first ++ flat_map (λ e. codes ", " ++ decimal e) others
 
--- 10 Diags M - Executed [4, 8, 9] 5f2d.., for record i
+-- 10 Answer - Executed [4, 8, 9] 5f2d.., for record i
 abbrev pub record_line : ℕ → RecordValue → List ℕ
 record_line i r =
     decimal i ++ codes " " ++ key_text r.key ++ codes " " ++ mark_word r.mark ++ codes " ["
