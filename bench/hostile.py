@@ -16,7 +16,7 @@ import time
 from pathlib import Path
 
 sys.dont_write_bytecode = True
-from measuring import asked  # noqa: E402
+from measuring import asked, in_turn  # noqa: E402
 from shapes import MAIN  # noqa: E402
 
 MOST = 1_048_576
@@ -100,10 +100,11 @@ def timed(words, limit):
     return (taken, status) if taken < limit else None
 
 
-def runs_of(program, path, jobs):
+def runs_of(program, path, numbers):
     """The runs that are timed, in order: an unchanged check stands over the cache of the first one."""
     runs = {"scratch": [program, "scratch", path]}
-    for number, behind in ((1, ""), (jobs, f" by {jobs}")):
+    for number in numbers:
+        behind = "" if number == 1 else f" by {number}"
         cache = Path(path).parent / f"cache{number}"
         check = [program, "check", "--cache", str(cache), "--jobs", str(number), path]
         shutil.rmtree(cache, ignore_errors=True)
@@ -114,8 +115,8 @@ def runs_of(program, path, jobs):
 def least_times(program, path, runs, limit, jobs):
     """The least seconds of each of these runs, or None if one takes longer than the limit."""
     least = {}
-    for _ in range(runs):
-        for run, words in runs_of(program, path, jobs).items():
+    for turn in range(runs):
+        for run, words in runs_of(program, path, in_turn((1, jobs), turn)).items():
             if run in least and least[run] is None:
                 continue
             took = timed(words, limit)
@@ -132,6 +133,8 @@ def shown(run, took, ordinary, limit):
     seconds, alone = took[run], run.partition(" by ")[0]
     if seconds is None:
         return f"over {limit} s"
+    if run != alone and took[alone] is None:
+        return f"{seconds:.3f} s, and one worker over {limit} s"
     if run != alone:
         return f"{seconds:.3f} s, {seconds / took[alone]:.2f} of one worker's"
     return f"{seconds:.3f} s, {seconds / ordinary[run]:.1f} times"

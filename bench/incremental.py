@@ -11,7 +11,7 @@ both forms, and an unchanged check behind 1, 2, 10 and 50 sessions of form 2, ea
 
 By 1, 2, 4 and 8 workers (--jobs) a first session, an unchanged one, and one in which a body was edited, each beside the time
 of the first number of workers.
-The runs take turns, and the least of each counts. Nothing is asserted but that all workers make the same files.
+The runs take turns, which begin with the fewest and with the most workers, and the least of each counts. Nothing is asserted but that all workers make the same files.
 """
 import argparse
 import filecmp
@@ -22,7 +22,7 @@ from pathlib import Path
 
 sys.dont_write_bytecode = True
 from chains import session_files  # noqa: E402
-from measuring import asked, measured  # noqa: E402
+from measuring import asked, in_turn, measured  # noqa: E402
 from projects import EDITS, edit_file, write_project  # noqa: E402
 from rechecks import by_shapes  # noqa: E402
 from shapes import SHAPES  # noqa: E402
@@ -51,16 +51,16 @@ def check_by(program, folder, names, jobs):
 
 
 def times_by(program, folder, names, numbers, runs):
-    """The least seconds of each session by each number of workers."""
+    """The least seconds of each session by each number of workers. The turns begin with the fewest and with the most."""
     least = {}
-    for _ in range(runs):
+    for turn in range(runs):
         made = None
-        for jobs in numbers:
+        for jobs in in_turn(numbers, turn):
             took, files = check_by(program, folder, names, jobs)
             least[jobs] = [min(pair) for pair in zip(took, least.get(jobs, took))]
             made = made or files
             if not all(filecmp.cmp(one, other, shallow=False) for one, other in zip(made, files, strict=True)):
-                sys.exit(f"{jobs} workers make other files than {numbers[0]}")
+                sys.exit(f"{jobs} workers make other files than others")
     return least
 
 
@@ -69,7 +69,8 @@ def by_workers(program, numbers, runs):
         with tempfile.TemporaryDirectory() as folder:
             least = times_by(program, folder, write(folder), numbers, runs)
         print(title)
-        for jobs, took in least.items():
+        for jobs in numbers:
+            took = least[jobs]
             parts = (f"{seconds:.2f} s, {seconds / alone:.2f}" for seconds, alone in zip(took, least[numbers[0]]))
             first, again, edited = parts
             print(f"  {jobs} workers: a first session {first}; unchanged {again}; a body edited {edited}", flush=True)

@@ -47,6 +47,11 @@ def least_time(words, folder, runs, statuses=(0,)):
     return min(measured(words, folder, statuses).seconds for _ in range(runs))
 
 
+def in_turn(things, turn):
+    """These things in their order, and in every second turn in the other one, so that none is always the last of a turn."""
+    return things if turn % 2 == 0 else things[::-1]
+
+
 def repeated(program, steps, data, count, runs):
     """The least seconds in which a program does each of these steps on such bytes so many times, and `sha256sum` sums them.
     What a run costs without any repetition is taken off each time."""

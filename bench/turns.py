@@ -20,7 +20,7 @@ from pathlib import Path
 
 sys.dont_write_bytecode = True
 from chains import session_files, session_path  # noqa: E402
-from measuring import check, measured, program_path  # noqa: E402
+from measuring import check, in_turn, measured, program_path  # noqa: E402
 from projects import EDITS, edit_file  # noqa: E402
 from rechecks import times_of  # noqa: E402
 from shapes import SHAPES  # noqa: E402
@@ -44,7 +44,7 @@ def least_times(programs, folder, names, runs):
     files = chain(programs[0], folder, names)
     least = [{} for _ in programs]
     for turn in range(runs):
-        for place in range(len(programs)) if turn % 2 == 0 else reversed(range(len(programs))):
+        for place in in_turn(range(len(programs)), turn):
             took = times_of(programs[place], folder, names, 1)
             took["audit"] = measured([programs[place], "audit", *files], folder).seconds
             least[place] = {title: min(seconds, least[place].get(title, seconds)) for title, seconds in took.items()}
