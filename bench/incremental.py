@@ -11,7 +11,8 @@ both forms, and an unchanged check behind 1, 2, 10 and 50 sessions of form 2, ea
 
 By 1, 2, 4 and 8 workers (--jobs) a first session, an unchanged one, and one in which a body was edited, each beside the time
 of the first number of workers.
-The runs take turns, which begin with the fewest and with the most workers, and the least of each counts. Nothing is asserted but that all workers make the same files.
+The runs take turns, which begin with the fewest and with the most workers, and the least of each counts. Nothing is asserted
+but that all workers make the same files.
 """
 import argparse
 import filecmp
