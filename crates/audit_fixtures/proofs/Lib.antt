@@ -1,3 +1,4 @@
 mod Counting
 mod Filing
+mod Refusing
 mod Saying

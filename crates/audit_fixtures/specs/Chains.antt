@@ -1,5 +1,5 @@
 -- Files of chains that short texts give, and what audits of them say.
-use Rattle.std.specs.Prelude.{◌≡◌, ◌⊎◌, ℕ, List, [], ◌∷◌, ◌++◌, length, map, sum, Option, None, Result, Ok, Err, IfOk}
+use Rattle.std.specs.Prelude.{◌≡◌, ◌⊎◌, ℕ, List, [], ◌∷◌, ◌++◌, length, map, sum, take, slice_get, Option, Some, None, Result, Ok, Err, IfOk}
 use Rattle.item_ids.specs.declared.key.Key.{Key}
 use Rattle.result_bytes.specs.declared.value.Value.{Value}
 use Rattle.recorder.specs.Projects.{Project}
@@ -61,6 +61,15 @@ pub record IsWithoutMemory (files : List (List ℕ)) : Type 0 where
 -- the files of the chain's sessions are accepted
 abbrev pub IsAudited : List Change → Type 0
 IsAudited chain = (files : List (List ℕ)) × AreFilesOf chain files × AreAcceptedFiles chain files
+
+-- the file at this place of the chain's files is refused so behind those before it if a byte 0 follows it
+pub record IsRefusedLonger (chain : List Change) (at : ℕ) (fault : AuditFault) : Type 0 where
+  pub files : List (List ℕ)
+  pub files_of : AreFilesOf chain files
+  pub file : List ℕ
+  pub there : slice_get files at ≡ Some file
+  pub log : List Key
+  pub refused : IsRefusedBehind queries (take at files ++ (file ++ 0 ∷ []) ∷ []) [] log fault
 
 -- an audit of them by a runner that had run nothing says this
 pub record IsSaidOf (chain : List Change) (said : Result (ℕ × ℕ) AuditFault) : Type 0 where

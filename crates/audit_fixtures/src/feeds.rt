@@ -1,11 +1,17 @@
 //! Auditors over feeds that fail, and over files that are too long.
+ghost use Rattle.std.specs.Prelude.{◌≡◌, ◌++◌, ◌∷◌, [], List, map, IfOk, IfSome};
+ghost use Rattle.query_rules.specs.Queries.{queries};
+ghost use Rattle.audit_replay.specs.Audits.{IsRefusedBehind};
+ghost use Rattle.audit_replay.specs.Sums.{AreSummed};
+ghost use Rattle.audit_fixtures.specs.Chains.{IsRefusedLonger};
 
 use crate::auditors::{plain, stays};
-use crate::chain::files_of;
+use crate::chain::{files_of, slices};
 use answer_fixtures::Unfit;
 use audit_graph::AuditFault;
 use audit_replay::Auditor;
-use devices::{Feed, MemorySink};
+use devices::Feed;
+use item_ids::Key;
 use providers::MiniJava;
 use session_file::FileFault;
 use session_fixtures::{Failing, FailingFeed, Manner};
@@ -13,17 +19,19 @@ use std::alloc::{AllocError, Global};
 use table_fixtures::Change;
 
 /// An auditor that has taken these files.
-fn taken(alloc: Global, runner: &mut MiniJava, files: &[MemorySink]) -> Option<Auditor<MiniJava>> {
+fn taken(
+    alloc: Global,
+    runner: &mut MiniJava,
+    files: &[&[u8]],
+) -> Result<Auditor<MiniJava>, AuditFault>
+    ensures { IfOk result (λ auditor. AreSummed queries (map (λ f. f.now) files.now)
+        runner.old.log.items runner.new.log.items auditor.state) }
+{
     let mut auditor = Auditor::new();
     for file in files {
-        if auditor
-            .take(alloc, runner, &mut plain(file.bytes()))
-            .is_err()
-        {
-            return None;
-        }
+        auditor.take(alloc, runner, &mut plain(file))?;
     }
-    Some(auditor)
+    Ok(auditor)
 }
 
 /// What came of a file whose feed fails at one of its calls.
@@ -38,9 +46,9 @@ enum Came {
 }
 
 /// Takes the file that follows these from a feed that behaves like this.
-fn taken_behind(alloc: Global, files: &[MemorySink], file: &[u8], manner: Manner) -> Came {
+fn taken_behind(alloc: Global, files: &[&[u8]], file: &[u8], manner: Manner) -> Came {
     let mut runner = MiniJava::new(alloc);
-    let Some(mut auditor) = taken(alloc, &mut runner, files) else {
+    let Ok(mut auditor) = taken(alloc, &mut runner, files) else {
         return Came::Other;
     };
     let runs = runner.log().len();
@@ -60,13 +68,7 @@ fn taken_behind(alloc: Global, files: &[MemorySink], file: &[u8], manner: Manner
 }
 
 /// Whether the file that follows these is refused at each call of its feed that fails.
-fn fails_behind(
-    alloc: Global,
-    files: &[MemorySink],
-    file: &[u8],
-    piece: usize,
-    goes_on: bool,
-) -> bool {
+fn fails_behind(alloc: Global, files: &[&[u8]], file: &[u8], piece: usize, goes_on: bool) -> bool {
     for call in 0..file.len() {
         let manner = Manner {
             piece,
@@ -85,55 +87,69 @@ fn fails_behind(
 /// The feed gives so many bytes in a call at most.
 pub fn fails_at_each_call(alloc: Global, chain: &[Change], piece: usize) -> Result<bool, Unfit> {
     let files = files_of(alloc, chain)?;
-    for (at, file) in files.iter().enumerate() {
-        let Some(before) = files.get(..at) else {
-            return Err(Unfit);
-        };
-        if !fails_in_both_ways(alloc, before, file.bytes(), piece) {
+    let list = slices(alloc, files.as_slice())?;
+    let list = list.as_slice();
+    for (at, file) in list.iter().enumerate() {
+        if !fails_in_both_ways(alloc, &list[..at], file, piece) {
             return Ok(false);
         }
     }
     Ok(true)
 }
 
-fn fails_in_both_ways(alloc: Global, before: &[MemorySink], file: &[u8], piece: usize) -> bool {
+fn fails_in_both_ways(alloc: Global, before: &[&[u8]], file: &[u8], piece: usize) -> bool {
     fails_behind(alloc, before, file, piece, false)
         && fails_behind(alloc, before, file, piece, true)
 }
 
-/// The file and one byte behind it.
-fn longer(alloc: Global, file: &[u8]) -> Result<Vec<u8>, AllocError> {
+/// The file and a byte 0 behind it.
+fn longer(alloc: Global, file: &[u8]) -> Result<Vec<u8>, AllocError>
+    ensures { IfOk result (λ bytes. bytes.items ≡ file.now ++ 0 ∷ []) }
+{
     let mut bytes = file.to_vec(alloc)?;
     bytes.push(0)?;
     Ok(bytes)
 }
 
 /// Why these bytes are refused behind these files. The auditor stays refused, and none of the records is run.
-fn fault_behind(alloc: Global, files: &[MemorySink], bytes: &[u8]) -> Option<AuditFault> {
+fn fault_behind(alloc: Global, files: &[&[u8]], bytes: &[u8]) -> Option<AuditFault>
+    ensures { IfSome result (λ fault. (log : List Key)
+        × IsRefusedBehind queries (map (λ f. f.now) files.now ++ bytes.now ∷ []) [] log fault) }
+{
     let mut runner = MiniJava::new(alloc);
-    let mut auditor = taken(alloc, &mut runner, files)?;
+    let Ok(mut auditor) = taken(alloc, &mut runner, files) else {
+        return None;
+    };
     let runs = runner.log().len();
     let mut feed = plain(bytes);
-    let fault = auditor.take(alloc, &mut runner, &mut feed).err()?;
-    if runner.log().len() == runs && stays(alloc, auditor, &mut runner, &mut feed, bytes, fault) {
+    let Err(fault) = auditor.take(alloc, &mut runner, &mut feed) else {
+        return None;
+    };
+    if feed.failures() != 0 || runner.log().len() != runs {
+        return None;
+    }
+    if stays(alloc, auditor, &mut runner, &mut feed, bytes, fault) {
         Some(fault)
     } else {
         None
     }
 }
 
-/// Why an auditor refuses the file at this place of the chain if one byte follows it. It stays refused, and runs none of
+/// Why an auditor refuses the file at this place of the chain if a byte 0 follows it. It stays refused, and runs none of
 /// the file's records. None if it doesn't refuse so.
 pub fn fault_of_longer(
     alloc: Global,
     chain: &[Change],
     at: usize,
-) -> Result<Option<AuditFault>, Unfit> {
+) -> Result<Option<AuditFault>, Unfit>
+    ensures { IfOk result (λ found. IfSome found (IsRefusedLonger chain.now at)) }
+{
     let files = files_of(alloc, chain)?;
-    match (files.get(..at), files.get(at)) {
-        (Some(before), Some(file)) => {
-            Ok(fault_behind(alloc, before, &longer(alloc, file.bytes())?))
-        }
-        _ => Err(Unfit),
+    let list = slices(alloc, files.as_slice())?;
+    let list = list.as_slice();
+    if list.len() <= at {
+        return Err(Unfit);
     }
+    let bytes = longer(alloc, list[at])?;
+    Ok(fault_behind(alloc, &list[..at], &bytes))
 }

@@ -1,5 +1,5 @@
 -- The sessions that are made from short texts, and what is reported of them.
-use Rattle.std.specs.Prelude.{◌≡◌, ◌==◌, ℕ, Bool, List, [], ◌∷◌, length, map, sum, count_by, Option, Some, None, Ok, Err}
+use Rattle.std.specs.Prelude.{◌≡◌, ℕ, List, [], ◌∷◌, All, length, map, sum, Option, Some, None, Ok, Err}
 use Rattle.item_ids.specs.declared.kind.Kind.TheVariants as kinds
 use Rattle.item_ids.specs.declared.key.Key.{Key}
 use Rattle.item_ids.specs.Keys.{kind_of, class_of}
@@ -9,10 +9,8 @@ use Rattle.recorder.specs.Projects.{Project}
 use Rattle.query_rules.specs.Queries.{queries}
 use Rattle.sessions.specs.declared.terms.Terms.{Terms}
 use Rattle.sessions.specs.Terms.{first_terms}
-use Rattle.sessions.specs.declared.mark.Mark.{Mark}
 use Rattle.sessions.specs.declared.mark.Mark.TheVariants.{Executed, Green}
-use Rattle.sessions.specs.Marks.{mark_number}
-use Rattle.sessions.specs.Sessions.{RecordValue, SessionValue, many_of}
+use Rattle.sessions.specs.Sessions.{SessionValue, many_of}
 use Rattle.sessions.specs.Spelling.{digest_of}
 use Rattle.job_table.specs.Tables.{TableValue}
 use Rattle.job_table.specs.Calls.{opened, AskGives}
@@ -113,6 +111,18 @@ pub record HaveExecuted (p q : Project) (first second : Runs) : Type 0 where
 -- the worker of number 1, who asks for the key, is answered that it stops
 abbrev pub IsAnsweredStop : Key → TableValue → TableValue → Type 0
 IsAnsweredStop q t u = AskGives t 1 q (Ok Stopped) u
+
+-- some worker who asks for the key is answered that it stops
+abbrev pub IsToldToStop : Key → TableValue → TableValue → Type 0
+IsToldToStop q t u = (w : ℕ) × AskGives t w q (Ok Stopped) u
+
+-- at a table of a first session of some project, workers are answered so for as many keys as there are workers
+pub record AllStop (workers : ℕ) : Type 0 where
+  pub project : Project
+  pub keys : List Key
+  pub so_many : length keys ≡ workers
+  pub stop : All (λ (q : Key). IsGiven queries
+      (opened queries.by_profile first_terms None project) (IsToldToStop q)) keys
 
 -- at a table of a first session of the file, a worker who asks for its tree is answered that it
 -- stops

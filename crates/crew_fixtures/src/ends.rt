@@ -1,4 +1,7 @@
 //! How often a gate is called around the runs of a session.
+ghost use Rattle.std.specs.Prelude.{IfOk, IsTrue};
+ghost use Rattle.answer_fixtures.specs.Telling.{one_file};
+ghost use Rattle.crew_fixtures.specs.Workers.{IsMadeOrLacksMemory};
 
 use answer_fixtures::{Unfit, project_of};
 use item_ids::Key;
@@ -87,7 +90,9 @@ fn are_called<T: Threads + Wait + Sync>(
     gate: &Ends,
     workers: usize,
     runs: usize,
-) -> bool {
+) -> bool
+    ensures { IsTrue result → IsMadeOrLacksMemory project.now workers }
+{
     match run_session(rt, alloc, None, project, workers, gate) {
         Ok(_) => gate.are_called_once() && gate.have_ended(runs),
         Err(DriveFault::OutOfMemory) => gate.are_called_once(),
@@ -103,7 +108,9 @@ pub fn gates_are_called_once<T: Threads + Wait + Sync>(
     text: &str,
     workers: usize,
     runs: usize,
-) -> Result<bool, Unfit> {
+) -> Result<bool, Unfit>
+    ensures { IfOk result (λ once. IsTrue once → IsMadeOrLacksMemory (one_file text.now) workers) }
+{
     let project = twice(&|| project_of(alloc, text))?;
     let gate = twice(&|| Ends::new(alloc))?;
     Ok(are_called(rt, alloc, &project, &gate, workers, runs))

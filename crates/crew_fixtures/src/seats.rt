@@ -1,9 +1,9 @@
 //! Seats at one table, one of whose workers fails.
-ghost use Rattle.std.specs.Prelude.{◌≡◌, ◌<◌, IfOk, IsTrue, length};
+ghost use Rattle.std.specs.Prelude.{◌≡◌, ◌<◌, ◌∷◌, ◌++◌, [], All, IfOk, OnOk, IsTrue, length};
 ghost use Rattle.query_rules.specs.Queries.{queries};
 ghost use Rattle.shared_table.specs.Given.{IsGiven};
 ghost use Rattle.shared_table.specs.Opened.{IsOpenedFor};
-ghost use Rattle.crew_fixtures.specs.Made.{FellowsStop, IsAnsweredStop};
+ghost use Rattle.crew_fixtures.specs.Made.{AllStop, FellowsStop, IsAnsweredStop, IsToldToStop};
 
 use crate::files::{File, project_of};
 use crate::workers::project_of_many;
@@ -29,8 +29,14 @@ enum Reply {
     Other,
 }
 
-fn ask<S: Store>(store: &mut S, worker: u32, key: &Key) -> Reply {
-    match store.ask(worker, key) {
+fn ask<J: Naming, R: Runner, T: Wait, G: Gate>(
+    seat: &mut Seat<'_, J, R, T, G>,
+    worker: u32,
+    key: &Key,
+) -> Reply
+    ensures { result ≡ Reply.Stopped → IsGiven R.queries J.opened (IsToldToStop key.now) }
+{
+    match seat.ask(worker, key) {
         Ok(TableReply::Yours) => Reply::Yours,
         Ok(TableReply::Done(_)) => Reply::Done,
         Ok(TableReply::Stopped) => Reply::Stopped,
@@ -62,18 +68,30 @@ struct TwoInputs {
 }
 
 /// Whether the worker is answered for an input and claims the tree.
-fn begins<S: Store>(store: &mut S, worker: u32, inputs: &TwoInputs, tree: &Key) -> bool {
-    ask(store, worker, &inputs.before) == Reply::Done && ask(store, worker, tree) == Reply::Yours
+fn begins<J: Naming, R: Runner, T: Wait, G: Gate>(
+    seat: &mut Seat<'_, J, R, T, G>,
+    worker: u32,
+    inputs: &TwoInputs,
+    tree: &Key,
+) -> bool {
+    ask(seat, worker, &inputs.before) == Reply::Done && ask(seat, worker, tree) == Reply::Yours
 }
 
 /// Whether the worker is answered for the input that its seat has kept, and stops if it asks for another one or for the
 /// tree that it claimed, or goes on in another way.
-fn stops<S: Store>(store: &mut S, worker: u32, inputs: &TwoInputs, tree: &Key) -> bool {
-    ask(store, worker, &inputs.before) == Reply::Done
-        && ask(store, worker, &inputs.after) == Reply::Stopped
-        && ask(store, worker, tree) == Reply::Stopped
-        && begin(store, worker, tree) == Reply::Failed
-        && fail(store, worker) == Reply::Failed
+fn stops<J: Naming, R: Runner, T: Wait, G: Gate>(
+    seat: &mut Seat<'_, J, R, T, G>,
+    worker: u32,
+    inputs: &TwoInputs,
+    tree: &Key,
+) -> bool
+    ensures { IsTrue result → IsGiven R.queries J.opened (IsToldToStop tree.now) }
+{
+    ask(seat, worker, &inputs.before) == Reply::Done
+        && ask(seat, worker, &inputs.after) == Reply::Stopped
+        && ask(seat, worker, tree) == Reply::Stopped
+        && begin(seat, worker, tree) == Reply::Failed
+        && fail(seat, worker) == Reply::Failed
 }
 
 /// The key of the tree of the file of this number.
@@ -82,12 +100,16 @@ fn tree_of(alloc: Global, number: usize) -> Result<Key, Unfit> {
     key_of(alloc, KeyParts(Kind::Tree, file.as_str(), ""))
 }
 
-fn push(keys: &mut Vec<Key>, key: Key) -> Result<(), AllocError> {
+fn push(keys: &mut Vec<Key>, key: Key) -> Result<(), AllocError>
+    ensures { OnOk result (keys.new.items ≡ keys.old.items ++ key ∷ []) }
+{
     Ok(keys.push(key)?)
 }
 
 /// The keys of the trees of so many files.
-fn trees_of(alloc: Global, count: usize) -> Result<Vec<Key>, Unfit> {
+fn trees_of(alloc: Global, count: usize) -> Result<Vec<Key>, Unfit>
+    ensures { IfOk result (λ keys. length keys.items ≡ count) }
+{
     let mut keys = Vec::new(alloc);
     for number in 0..count {
         push(&mut keys, tree_of(alloc, number)?)?;
@@ -115,6 +137,8 @@ fn stop_from<J: Naming, T: Wait>(
 ) -> bool
     requires parts { length trees.now < share.old.parts }
     requires none { share.old.amount ≡ 0 }
+    ensures { IsTrue result
+        → All (λ q. IsGiven queries J.opened (IsToldToStop q)) trees.now }
 {
     let mut tally = Tally::new(share.split_off(1, 0));
     let mut seat = shared.seat(alloc, rt, &Open, &mut tally);
@@ -144,6 +168,8 @@ fn stop<J: Naming, T: Wait>(
 ) -> bool
     requires opened { IsOpenedFor J.name J.parts J.book J.opened opening }
     requires seats { length trees.now < opening.blank.parts }
+    ensures { IsTrue result
+        → All (λ q. IsGiven queries J.opened (IsToldToStop q)) trees.now }
 {
     let (counted, mut share, list) = opening.named::<J>();
     match Shared::new(counted, list) {
@@ -164,12 +190,9 @@ fn inputs_of(alloc: Global) -> Result<TwoInputs, Unfit> {
 const SEATS: usize = 65;
 
 /// Whether, of so many workers who have each claimed a key, all stop once this one has failed. Their seats have stayed.
-pub fn all_stop<T: Wait>(
-    rt: &T,
-    alloc: Global,
-    workers: usize,
-    failing: u32,
-) -> Result<bool, Unfit> {
+pub fn all_stop<T: Wait>(rt: &T, alloc: Global, workers: usize, failing: u32) -> Result<bool, Unfit>
+    ensures { IfOk result (λ stop. IsTrue stop → AllStop workers) }
+{
     let project = project_of_many(alloc, workers)?;
     let trees = trees_of(alloc, workers)?;
     if SEATS <= trees.len() {
