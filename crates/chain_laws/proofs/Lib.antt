@@ -1,2 +1,3 @@
 pub mod GoingOn
+mod NoNeed
 pub mod OwnFiles

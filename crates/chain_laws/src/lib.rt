@@ -1,10 +1,12 @@
 //! Laws of chains of sessions: what holds of a chain that was accepted and a session over its last one, whatever the
-//! queries, and for those of MiniJava.
+//! queries, and for those of MiniJava; and that the next session of a project executes no query without need.
 #![tactic(auto)]
 
+mod causes;
 mod laws;
 mod of_mini_java;
 
+pub use causes::next_has_causes;
 pub use laws::{behind_a_right_chain, next_goes_on, next_is_accepted};
 pub use of_mini_java::{
     checked_is_by_the_rules, made_is_accepted, next_of_mini_java_is_accepted, reads_own_files,

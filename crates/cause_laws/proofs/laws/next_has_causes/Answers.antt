@@ -1,8 +1,0 @@
-use Rattle.cause_laws.proofs.NoNeed.{all_needed, no_need}
-use Rattle.cause_laws.proofs.laws.next_has_causes.Goals as goal
-
-pub returns-clause-cause : goal.returns-clause-cause
-returns-clause-cause c = no_need
-
-pub returns-clause-told : goal.returns-clause-told
-returns-clause-told c = all_needed
