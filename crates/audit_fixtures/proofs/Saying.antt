@@ -24,6 +24,13 @@ pub said_accepts : (files : List (List ℕ)) (old new : List Key) (r : Result Au
 said_accepts files old new (Ok a) h = record { profile = a.profile; project = h.0; answer = arc_value a.answer; accepted = h.1 }
 said_accepts files old new (Err fault) h = tt
 
+-- what is said in the end of files that were all taken
+pub said_of_all : (files : List (List ℕ)) (old new : List Key) (state : Result Sum AuditFault) → AreSummed queries files old new state → (r : Result Audited AuditFault)
+    → ((ss : List SessionValue) → Sums state ss → EndGives queries ss r) → (said : Result (ℕ × ℕ) AuditFault) → said ≡ said_by_audit r → IfOk said (IsAcceptedAs files old new)
+said_of_all files old new state all r gives said is =
+    subst (λ (s : Result (ℕ × ℕ) AuditFault). IfOk s (IsAcceptedAs files old new)) (sym is)
+    (said_accepts files old new r (audit_accepts queries mini_java_laws files old new state all r (gives all.sessions all.sums)))
+
 -- what is said in the end of files that were taken one after the other
 pub said_in_end : (chain : List (Bor (List ℕ))) (at : ℕ) → length chain ≤ at → (old new : List Key) (state : Result Sum AuditFault)
     → AreSummed queries (take at (map (λ (f : Bor (List ℕ)). f.now) chain)) old new state → (r : Result Audited AuditFault) → ((ss : List SessionValue) → Sums state ss → EndGives queries ss r)
@@ -32,9 +39,7 @@ said_in_end chain at past old new state summed r gives said is =
     let files : List (List ℕ) = map (λ (f : Bor (List ℕ)). f.now) chain in
     let many = length-map chain (λ (f : Bor (List ℕ)). f.now) in
     let le : length files ≤ at = omega (arith, many, past) in
-    let all = summed_all queries files at le old new state summed in
-    subst (λ (s : Result (ℕ × ℕ) AuditFault). IfOk s (IsAcceptedAs files old new)) (sym is)
-    (said_accepts files old new r (audit_accepts queries mini_java_laws files old new state all r (gives all.sessions all.sums)))
+    said_of_all files old new state (summed_all queries files at le old new state summed) r gives said is
 
 -- with a runner that had run nothing
 pub said_from_none : (files : List (List ℕ)) (old new : List Key) (said : Result (ℕ × ℕ) AuditFault) → old ≡ [] → IfOk said (IsAcceptedAs files old new)

@@ -1,5 +1,7 @@
 //! Auditors that are refused memory: they stay so, and another one begins anew.
 ghost use Rattle.std.specs.Prelude.{◌≡◌, ◌⊎◌, map, IfOk, IsTrue};
+ghost use Rattle.query_rules.specs.Queries.{queries};
+ghost use Rattle.audit_replay.specs.Sums.{AreSummed};
 ghost use Rattle.audit_fixtures.specs.Chains.{IsAcceptedAs, AreAcceptedFiles, IsWithoutMemory, IsAudited, IsAuditedOrStays, IsSaidOf};
 
 use crate::audits::{Said, says, told, wanted};
@@ -99,15 +101,29 @@ pub fn auditor_stays(alloc: Global, chain: &[Change]) -> Result<bool, Unfit>
     Ok(is_taken_or_stays(alloc, chain, list.as_slice(), &mut runner))
 }
 
-/// What is said by an auditor that takes the files one by one, from feeds that give so many bytes in a call at most.
-fn taken_in_turn(alloc: Global, files: &[&[u8]], runner: &mut MiniJava, piece: usize) -> Said
-    ensures { IfOk result (IsAcceptedAs (map (λ f. f.now) files.now) runner.old.log.items
-        runner.new.log.items) }
+/// An auditor that has taken these files one by one, from feeds that give so many bytes in a call at most.
+pub(crate) fn taken(
+    alloc: Global,
+    files: &[&[u8]],
+    runner: &mut MiniJava,
+    piece: usize,
+) -> Result<Auditor<MiniJava>, AuditFault>
+    ensures { IfOk result (λ auditor. AreSummed queries (map (λ f. f.now) files.now)
+        runner.old.log.items runner.new.log.items auditor.state) }
 {
     let mut auditor = Auditor::new();
     for file in files {
         auditor.take(alloc, runner, &mut in_pieces(file, piece))?;
     }
+    Ok(auditor)
+}
+
+/// What is said by an auditor that takes the files one by one, from feeds that give so many bytes in a call at most.
+fn taken_in_turn(alloc: Global, files: &[&[u8]], runner: &mut MiniJava, piece: usize) -> Said
+    ensures { IfOk result (IsAcceptedAs (map (λ f. f.now) files.now) runner.old.log.items
+        runner.new.log.items) }
+{
+    let auditor = taken(alloc, files, runner, piece)?;
     told(auditor.end())
 }
 

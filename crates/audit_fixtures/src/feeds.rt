@@ -2,14 +2,12 @@
 ghost use Rattle.std.specs.Prelude.{◌≡◌, ◌++◌, ◌∷◌, [], List, map, IfOk, IfSome};
 ghost use Rattle.query_rules.specs.Queries.{queries};
 ghost use Rattle.audit_replay.specs.Audits.{IsRefusedBehind};
-ghost use Rattle.audit_replay.specs.Sums.{AreSummed};
 ghost use Rattle.audit_fixtures.specs.Chains.{IsRefusedLonger};
 
-use crate::auditors::{plain, stays};
+use crate::auditors::{plain, stays, taken};
 use crate::chain::{files_of, slices};
 use answer_fixtures::Unfit;
 use audit_graph::AuditFault;
-use audit_replay::Auditor;
 use devices::Feed;
 use item_ids::Key;
 use providers::MiniJava;
@@ -17,22 +15,6 @@ use session_file::FileFault;
 use session_fixtures::{Failing, FailingFeed, Manner};
 use std::alloc::{AllocError, Global};
 use table_fixtures::Change;
-
-/// An auditor that has taken these files.
-fn taken(
-    alloc: Global,
-    runner: &mut MiniJava,
-    files: &[&[u8]],
-) -> Result<Auditor<MiniJava>, AuditFault>
-    ensures { IfOk result (λ auditor. AreSummed queries (map (λ f. f.now) files.now)
-        runner.old.log.items runner.new.log.items auditor.state) }
-{
-    let mut auditor = Auditor::new();
-    for file in files {
-        auditor.take(alloc, runner, &mut plain(file))?;
-    }
-    Ok(auditor)
-}
 
 /// What came of a file whose feed fails at one of its calls.
 #[derive(Clone, Copy, PartialEq, Eq)]
@@ -48,7 +30,7 @@ enum Came {
 /// Takes the file that follows these from a feed that behaves like this.
 fn taken_behind(alloc: Global, files: &[&[u8]], file: &[u8], manner: Manner) -> Came {
     let mut runner = MiniJava::new(alloc);
-    let Ok(mut auditor) = taken(alloc, &mut runner, files) else {
+    let Ok(mut auditor) = taken(alloc, files, &mut runner, usize::MAX) else {
         return Came::Other;
     };
     let runs = runner.log().len();
@@ -117,7 +99,7 @@ fn fault_behind(alloc: Global, files: &[&[u8]], bytes: &[u8]) -> Option<AuditFau
         × IsRefusedBehind queries (map (λ f. f.now) files.now ++ bytes.now ∷ []) [] log fault) }
 {
     let mut runner = MiniJava::new(alloc);
-    let Ok(mut auditor) = taken(alloc, &mut runner, files) else {
+    let Ok(mut auditor) = taken(alloc, files, &mut runner, usize::MAX) else {
         return None;
     };
     let runs = runner.log().len();

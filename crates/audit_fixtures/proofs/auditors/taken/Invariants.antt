@@ -1,7 +1,7 @@
 use Rattle.std.proofs.Common.{take, map}
 use Rattle.query_rules.specs.Queries.{queries}
 use Rattle.audit_replay.specs.Sums.{AreSummed}
-use Rattle.audit_fixtures.proofs.auditors.taken_in_turn.Given as goal
+use Rattle.audit_fixtures.proofs.auditors.taken.Given as goal
 
 abbrev pub invariant-loop-file : goal.invariant-loop-file
 invariant-loop-file l =
