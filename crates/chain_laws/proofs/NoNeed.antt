@@ -22,9 +22,9 @@ use Rattle.graph_rules.specs.Next.{AreNext, HasMark, IsReadIn, IsUnchanged}
 use Rattle.graph_rules.proofs.SettingRules.{kept_some}
 use Rattle.graph_rules.proofs.SessionRules.{entry_told}
 use Rattle.next_sessions.specs.Nexts.{IsNextSession}
-use Rattle.session_causes.specs.declared.cause.Cause.TheVariants.{NothingChanged}
-use Rattle.session_causes.specs.declared.cause.Why.{Why}
-use Rattle.session_causes.specs.Causes.{AreWhys, IsRightWhy, IsExplained, IsWhy, first_red, have_same_print, is_red, mark_at}
+use Rattle.session_text.specs.declared.causes.cause.Cause.TheVariants.{NothingChanged}
+use Rattle.session_text.specs.declared.causes.cause.Why.{Why}
+use Rattle.session_text.specs.Causes.{AreWhys, IsRightWhy, IsExplained, IsWhy, first_red, have_same_print, is_red, mark_at}
 
 -- if none is found, none passes
 none_passes : {X : Type 0} (test : X → Bool) (xs : List X) → find test xs ≡ None → AllByRecursion (λ x. test x ≡ false) xs

@@ -8,9 +8,9 @@ ghost use Rattle.sessions.specs.declared.terms.Terms.{Terms};
 ghost use Rattle.sessions.specs.Sessions.{SessionValue};
 ghost use Rattle.graph_rules.specs.Settings.{crossing_kinds};
 ghost use Rattle.next_sessions.specs.Nexts.{IsNextSession};
-ghost use Rattle.session_causes.specs.declared.cause.Cause.TheVariants.{NothingChanged};
-ghost use Rattle.session_causes.specs.declared.cause.Why.{Why};
-ghost use Rattle.session_causes.specs.Causes.{AreWhys, IsWhy};
+ghost use Rattle.session_text.specs.declared.causes.cause.Cause.TheVariants.{NothingChanged};
+ghost use Rattle.session_text.specs.declared.causes.cause.Why.{Why};
+ghost use Rattle.session_text.specs.Causes.{AreWhys, IsWhy};
 
 /// In a session that is next over the one before, no query was executed whose reads in that one all stayed as they were,
 /// unless its kind goes by another profile. So none of the lines on why its queries were executed says that

@@ -5,7 +5,7 @@ use Rattle.std.specs.Prelude.{flat_map}
 use Rattle.std.specs.List.{list_all}
 use Rattle.std.proofs.lemmas.Bool.{and_parts}
 use Rattle.mj_rules.specs.AnswerWords.{Diagnostic, ClassAnswerValue, AnswerValue}
-use Rattle.fault_lines.specs.FaultLines.{of_class, findings}
+use Rattle.diagnostic_lines.specs.FaultLines.{of_class, findings}
 use Rattle.diagnostic_lines.specs.Lines.{is_clean}
 
 nothing : (faults : List Diagnostic) → (length faults == 0) ≡ true → faults ≡ []

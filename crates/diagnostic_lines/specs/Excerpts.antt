@@ -3,7 +3,7 @@ use Rattle.std.specs.Prelude.{◌≡◌, ◌∷◌, ℕ, ◌+◌, ◌-◌, Bool,
 use Rattle.std.specs.List.{suffix_len, take_while}
 use Rattle.mj_lexer.specs.Bytes.{is_white}
 use Rattle.mj_lexer.specs.Places.{is_inside_line}
-use Rattle.fault_lines.specs.Places.{TextPlace}
+use Rattle.diagnostic_lines.specs.Places.{TextPlace}
 
 -- the last n bytes
 abbrev pub last : ℕ → List ℕ → List ℕ

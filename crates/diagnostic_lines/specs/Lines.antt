@@ -5,9 +5,9 @@ use Rattle.mj_lexer.specs.Places.{line_of, column_of}
 use Rattle.mj_rules.specs.AnswerWords.{AnswerValue, code_number}
 use Rattle.named_files.specs.Projects.{SourceFile}
 use Rattle.code_words.specs.Sentences.{sentence_of}
-use Rattle.fault_lines.specs.Places.{TextPlace}
-use Rattle.fault_lines.specs.FaultLines.{AreLinesOf}
-use Rattle.fault_lines.specs.declared.lines.FaultLine.{FaultLine}
+use Rattle.diagnostic_lines.specs.Places.{TextPlace}
+use Rattle.diagnostic_lines.specs.FaultLines.{AreLinesOf}
+use Rattle.diagnostic_lines.specs.declared.faults.FaultLine.{FaultLine}
 use Rattle.diagnostic_lines.specs.Excerpts.{excerpt}
 
 -- neither the project nor a class has a diagnostic

@@ -4,7 +4,7 @@ ghost use Rattle.std.specs.List.{prefix_len};
 ghost use Rattle.mj_lexer.specs.Places.{is_inside_line};
 ghost use Rattle.diagnostic_lines.specs.Excerpts.{in_front, from_on, shown, room, left_part, right_part, marked_sides, excerpt};
 
-use fault_lines::SourcePlace;
+use crate::places::SourcePlace;
 use std::alloc::AllocError;
 
 /// How many bytes a line has at most that is shown whole.

@@ -4,8 +4,9 @@ ghost use Rattle.std.specs.List.{list_all};
 ghost use Rattle.diagnostic_lines.specs.Lines.{is_clean, head_text, line_text, message_text, excerpt_if_any, line_with, IsFaultText};
 
 use crate::excerpts::write_excerpt;
+use crate::faults::{FaultLine, fault_lines};
+use crate::sources::ReadProject;
 use code_words::sentence;
-use fault_lines::{FaultLine, ReadProject, fault_lines};
 use mj_rules::{Answer, ClassAnswer, Project};
 use std::alloc::{AllocError, Global};
 

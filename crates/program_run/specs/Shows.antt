@@ -8,8 +8,8 @@ use Rattle.graph_rules.specs.Settings.{crossing_kinds}
 use Rattle.query_rules.specs.Queries.{is_by_profile}
 use Rattle.item_ids.specs.declared.kind.Kind.{Kind}
 use Rattle.session_text.specs.SessionText.{key_words, text_of_session}
-use Rattle.session_causes.specs.CauseTexts.{IsCausesText, IsWhyText}
-use Rattle.session_graph.specs.SessionGraph.{IsDotText}
+use Rattle.session_text.specs.CauseTexts.{IsCausesText, IsWhyText}
+use Rattle.session_text.specs.SessionGraph.{IsDotText}
 use Rattle.session_file.specs.Reading.{file_after}
 use Rattle.session_file.specs.declared.fault.FileFault.{FileFault}
 use Rattle.session_file.specs.declared.fault.FileFault.TheVariants as file

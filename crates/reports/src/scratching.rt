@@ -5,8 +5,7 @@ ghost use Rattle.diagnostic_lines.specs.Lines.{IsFaultText, is_clean};
 ghost use Rattle.reports.specs.Scratching.{AreScratchTexts};
 
 use crate::texts::AnswerTexts;
-use diagnostic_lines::{fault_text, is_clean};
-use fault_lines::ReadProject;
+use diagnostic_lines::{ReadProject, fault_text, is_clean};
 use mj_rules::{Answer, Project, answer_for_as, render};
 use profiles::Profile;
 use std::alloc::{AllocError, Global};

@@ -1,2 +1,3 @@
 pub mod Zips
 pub mod Asked
+pub mod Parts

@@ -12,8 +12,8 @@ use Rattle.recorder.specs.declared.reader.ReadFault.{ReadFault}
 use Rattle.recorder.specs.declared.reader.ReadFault.TheVariants.{NotHeld}
 use Rattle.recorder.specs.declared.runner.RunFault.{RunFault}
 use Rattle.recorder.specs.declared.runner.RunFault.TheVariants.{Read}
-use Rattle.runner_fixtures.specs.Meaning.{sample_mean}
-use Rattle.runner_fixtures.specs.Programs.{sample_reads}
+use Rattle.run_fixtures.specs.Meaning.{sample_mean}
+use Rattle.run_fixtures.specs.Programs.{sample_reads}
 use Rattle.answer_fixtures.specs.declared.keys.KeyParts.{KeyParts}
 use Rattle.answer_fixtures.specs.Telling.{Tell, IsKeyOf, IsSpelledValue}
 use Rattle.run_fixtures.specs.declared.reads.Given.{Given}

@@ -16,8 +16,7 @@ use crate::refusals::{KeptReads, keeps};
 use answer_fixtures::{KeyParts, Unfit, key_of};
 use fingerprint::Sealed;
 use item_ids::{Key, Kind};
-use recorder::{ReadFault, Reader, Recorder, RunFault, ask_key};
-use runner_fixtures::AnswerList;
+use recorder::{AnswerList, ReadFault, Reader, Recorder, RunFault, ask_key};
 use std::alloc::Global;
 use std::sync::Arc;
 

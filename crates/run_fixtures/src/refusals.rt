@@ -4,18 +4,18 @@ ghost use Rattle.item_ids.specs.Inputs.{rank as rank_of};
 ghost use Rattle.recorder.specs.Backed.{ReadValue};
 ghost use Rattle.recorder.specs.Recording.{Recording, fault_of};
 ghost use Rattle.recorder.specs.declared.reader.ReadFault.TheVariants.{NotHeld};
-ghost use Rattle.runner_fixtures.specs.declared.refusing.Refusing.{Refusing as SpecRefusing};
+ghost use Rattle.run_fixtures.specs.declared.sample.refusing.Refusing.{Refusing as SpecRefusing};
 ghost use Rattle.answer_fixtures.specs.Telling.{IsKeyOf};
 ghost use Rattle.run_fixtures.specs.Reading.{AreReadsOf, IsRefusedKey, KeepsJust, IsLoggedAs, IsHalted, IsLeft, IsLeftUnread};
 
 use crate::answers::list_of;
 use crate::reads::{Given, are_reads};
 use crate::runs::query_of;
+use crate::sample::{Refusing, SampleRunner};
 use answer_fixtures::{KeyParts, Unfit, is_key};
 use item_ids::Key;
 use profiles::Profile;
 use recorder::{ReadFault, Reader, Recorder, RunFault, record};
-use runner_fixtures::{Refusing, SampleRunner};
 use std::alloc::Global;
 
 /// What a recorder keeps: the reads in order, the fault, and the key that was refused, if any.

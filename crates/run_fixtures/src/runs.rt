@@ -2,19 +2,19 @@
 ghost use Rattle.std.specs.Prelude.{◌≡◌, ◌↔◌, ◌<◌, IsTrue, IfOk};
 ghost use Rattle.item_ids.specs.Inputs.{rank as rank_of};
 ghost use Rattle.recorder.specs.Runs.{IsOutcome};
-ghost use Rattle.runner_fixtures.specs.Meaning.{sample_mean};
-ghost use Rattle.runner_fixtures.specs.Programs.{sample_reads};
+ghost use Rattle.run_fixtures.specs.Meaning.{sample_mean};
+ghost use Rattle.run_fixtures.specs.Programs.{sample_reads};
 ghost use Rattle.answer_fixtures.specs.Telling.{IsKeyOf};
 ghost use Rattle.run_fixtures.specs.Reading.{IsOutcomeOf, IsGivenOutcome};
 
 use crate::answers::list_of;
 use crate::lent::record_over;
 use crate::reads::{Given, are_reads};
+use crate::sample::SampleRunner;
 use answer_fixtures::{KeyParts, Unfit, is_key, is_spelled, key_of};
 use item_ids::{Key, rank};
 use profiles::Profile;
 use recorder::{AnswerList, Outcome};
-use runner_fixtures::SampleRunner;
 use std::alloc::Global;
 
 /// The key of a query that is no input.

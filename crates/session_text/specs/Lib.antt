@@ -1,2 +1,9 @@
 pub mod FaultWords
 pub mod SessionText
+pub mod Flags
+pub mod Shades
+pub mod Within
+pub mod SessionGraph
+pub mod Causes
+pub mod CauseTexts
+pub mod Parts

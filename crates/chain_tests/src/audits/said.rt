@@ -5,7 +5,7 @@ use answer_fixtures::{KeyParts, is_key, sealed_of};
 use audit_graph::AuditFault;
 use audit_replay::{Audited, audit};
 use item_ids::{Key, Kind};
-use runner_fixtures::SampleRunner;
+use run_fixtures::SampleRunner;
 use sessions::Terms;
 use std::alloc::Global;
 

@@ -8,7 +8,7 @@ use crate::failure::Failure;
 use crate::report::Report;
 use crate::subcommands::last::{LastPair, crossing_kinds, index_of, last_two};
 use command_line::WhyWords;
-use session_causes::{causes_text, why_text};
+use session_text::{causes_text, why_text};
 use sessions::Session;
 use std::alloc::Global;
 use std::rt::Files;

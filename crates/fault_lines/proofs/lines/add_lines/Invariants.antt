@@ -1,6 +1,0 @@
-use Rattle.std.proofs.Common.{Some, take}
-use Rattle.fault_lines.specs.FaultLines.{AddsLines}
-use Rattle.fault_lines.proofs.lines.add_lines.Given as goal
-
-abbrev pub invariant-loop-fault : goal.invariant-loop-fault
-invariant-loop-fault l = AddsLines (Some l.text) l.class (take l.fault-index l.faults) l.initial.lines.items l.lines.items

@@ -1,8 +1,0 @@
-use Rattle.std.proofs.Common.{List, ◌++◌, map, take}
-use Rattle.fault_lines.specs.Pairs.{Pairwise}
-use Rattle.fault_lines.specs.FaultLines.{AnswerDiagnostic, of_project, IsLineOf}
-use Rattle.fault_lines.proofs.lines.add_project_lines.Given as goal
-
-abbrev pub invariant-loop-fault : goal.invariant-loop-fault
-invariant-loop-fault l = (before : List AnswerDiagnostic) → Pairwise (IsLineOf l.texts) before l.initial.lines.items
-    → Pairwise (IsLineOf l.texts) (before ++ map of_project (take l.fault-index l.faults)) l.lines.items

@@ -1,7 +1,0 @@
-mod Added
-mod Found
-mod CauseRules
-mod Merging
-mod KeyRules
-mod Telling
-mod TrailRules

@@ -1,3 +1,0 @@
-pub mod Causes
-pub mod CauseTexts
-pub mod Parts

@@ -1,3 +1,0 @@
-mod Escapes
-mod Flags
-mod Walk

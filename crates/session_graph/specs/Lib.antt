@@ -1,4 +1,0 @@
-pub mod Flags
-pub mod Shades
-pub mod Within
-pub mod SessionGraph
