@@ -24,8 +24,8 @@ use Rattle.graph_rules.specs.Next.{IsRightAfter}
 use Rattle.graph_rules.specs.Next.IsReadIn.{root}
 use Rattle.graph_rules.proofs.SettingRules.{kept_held}
 use Rattle.graph_rules.proofs.SessionRules.{entry_told, no_clash}
-use Rattle.next_sessions.specs.Nexts.{IsOfSomeProject, StandsApart, IsNextSession, ReadsOwnFiles}
-use Rattle.next_sessions.proofs.NextRight.{told, next_right}
+use Rattle.graph_rules.specs.NextSessions.{IsOfSomeProject, StandsApart, IsNextSession, ReadsOwnFiles}
+use Rattle.graph_rules.proofs.NextRight.{told, next_right}
 use Rattle.audit_graph.specs.Chains.{AreLinked}
 use Rattle.audit_graph.specs.declared.fault.AuditFault.{AuditFault}
 use Rattle.audit_graph.specs.declared.fault.AuditFault.TheVariants.{OutOfMemory}

@@ -21,7 +21,7 @@ use Rattle.graph_rules.specs.Settings.{Setting, has_kind, crossing_kinds, settin
 use Rattle.graph_rules.specs.Next.{AreNext, HasMark, IsReadIn, IsUnchanged}
 use Rattle.graph_rules.proofs.SettingRules.{kept_some}
 use Rattle.graph_rules.proofs.SessionRules.{entry_told}
-use Rattle.next_sessions.specs.Nexts.{IsNextSession}
+use Rattle.graph_rules.specs.NextSessions.{IsNextSession}
 use Rattle.session_text.specs.declared.causes.cause.Cause.TheVariants.{NothingChanged}
 use Rattle.session_text.specs.declared.causes.cause.Why.{Why}
 use Rattle.session_text.specs.Causes.{AreWhys, IsRightWhy, IsExplained, IsWhy, first_red, have_same_print, is_red, mark_at}

@@ -32,7 +32,7 @@ use Rattle.graph_rules.specs.Graphs.IsRoot.{answer, files, source}
 use Rattle.graph_rules.specs.Next.{IsReadIn}
 use Rattle.graph_rules.specs.Next.IsReadIn.{root, read}
 use Rattle.graph_rules.proofs.NextRules.{all_at}
-use Rattle.next_sessions.specs.Nexts.{ReadsOwnFiles}
+use Rattle.graph_rules.specs.NextSessions.{ReadsOwnFiles}
 use Rattle.audit_graph.proofs.Entries.{contains_there}
 use Rattle.audit_replay.proofs.AgainstRules.{name_in}
 

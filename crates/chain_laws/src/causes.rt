@@ -7,7 +7,7 @@ ghost use Rattle.recorder.specs.Backed.{Queries};
 ghost use Rattle.sessions.specs.declared.terms.Terms.{Terms};
 ghost use Rattle.sessions.specs.Sessions.{SessionValue};
 ghost use Rattle.graph_rules.specs.Settings.{crossing_kinds};
-ghost use Rattle.next_sessions.specs.Nexts.{IsNextSession};
+ghost use Rattle.graph_rules.specs.NextSessions.{IsNextSession};
 ghost use Rattle.session_text.specs.declared.causes.cause.Cause.TheVariants.{NothingChanged};
 ghost use Rattle.session_text.specs.declared.causes.cause.Why.{Why};
 ghost use Rattle.session_text.specs.Causes.{AreWhys, IsWhy};

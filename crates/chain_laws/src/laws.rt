@@ -9,7 +9,7 @@ ghost use Rattle.recorder.specs.Backed.{Queries, AreLawful};
 ghost use Rattle.sessions.specs.declared.terms.Terms.{Terms};
 ghost use Rattle.sessions.specs.Sessions.{SessionValue};
 ghost use Rattle.sessions.specs.Spelling.{file_of};
-ghost use Rattle.next_sessions.specs.Nexts.{StandsApart, IsNextSession, ReadsOwnFiles};
+ghost use Rattle.graph_rules.specs.NextSessions.{StandsApart, IsNextSession, ReadsOwnFiles};
 ghost use Rattle.audit_graph.specs.declared.fault.AuditFault.{AuditFault};
 ghost use Rattle.audit_graph.specs.declared.fault.AuditFault.TheVariants.{OutOfMemory};
 ghost use Rattle.audit_replay.specs.Audits.{AreApart, IsAccepted, AuditRefuses, last_of};

@@ -14,9 +14,9 @@ use Rattle.graph_rules.proofs.SessionRules.{no_clash}
 use Rattle.graph_rules.proofs.NextRules.{closed_next, closed_as}
 use Rattle.shared_table.specs.Closing.{IsFull}
 use Rattle.driver.specs.declared.reports.Reports.{Reports}
-use Rattle.next_sessions.specs.Nexts.{StandsApart, IsNextSession}
-use Rattle.next_sessions.proofs.OneSession.{one_session}
-use Rattle.next_sessions.proofs.NextRight.{known_past}
+use Rattle.graph_rules.specs.NextSessions.{StandsApart, IsNextSession}
+use Rattle.graph_rules.proofs.OneSession.{one_session}
+use Rattle.graph_rules.proofs.NextRight.{known_past}
 use Rattle.driver.specs.Sessions.{IsCrew, AreEventsOf, DriveGives}
 use Rattle.driver.specs.declared.fault.DriveFault.{DriveFault}
 use Rattle.driver.specs.declared.fault.DriveFault.TheVariants as fault

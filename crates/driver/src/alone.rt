@@ -1,7 +1,7 @@
 //! One session, by one worker who starts no thread.
 ghost use Rattle.std.specs.Prelude.{◌≡◌, IfOk};
 ghost use Rattle.sessions.specs.Sessions.{session_in};
-ghost use Rattle.next_sessions.specs.Nexts.{StandsApart, IsNextSession};
+ghost use Rattle.graph_rules.specs.NextSessions.{StandsApart, IsNextSession};
 ghost use Rattle.shared_table.specs.Opened.{IsOpenedFor};
 ghost use Rattle.driver.specs.Sessions.{DriveGives, IsSessionOf};
 

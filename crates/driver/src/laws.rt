@@ -9,7 +9,7 @@ ghost use Rattle.sessions.specs.Spelling.{file_of};
 ghost use Rattle.graph_rules.specs.Steps.{Event};
 ghost use Rattle.shared_table.specs.Closing.{IsFull};
 ghost use Rattle.driver.specs.declared.reports.Reports.{Reports};
-ghost use Rattle.next_sessions.specs.Nexts.{StandsApart, IsNextSession};
+ghost use Rattle.graph_rules.specs.NextSessions.{StandsApart, IsNextSession};
 ghost use Rattle.driver.specs.Sessions.{IsCrew, AreEventsOf, IsSessionOf, DriveGives};
 ghost use Rattle.driver.specs.declared.fault.DriveFault.{DriveFault};
 ghost use Rattle.driver.specs.declared.fault.DriveFault.TheVariants as fault;

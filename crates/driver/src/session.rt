@@ -7,7 +7,7 @@ ghost use Rattle.shared_table.specs.Closes.{MayClose};
 ghost use Rattle.recorder.specs.Backed.{AreLawful};
 ghost use Rattle.sessions.specs.Terms.{first_terms};
 ghost use Rattle.sessions.specs.Sessions.{IsSession, session_in};
-ghost use Rattle.next_sessions.specs.Nexts.{StandsApart, IsNextSession};
+ghost use Rattle.graph_rules.specs.NextSessions.{StandsApart, IsNextSession};
 ghost use Rattle.shared_table.specs.Opened.{IsOpenedFor};
 ghost use Rattle.driver.specs.Sessions.{IsCrew, DriveGives, IsSessionOf};
 

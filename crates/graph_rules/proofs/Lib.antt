@@ -7,3 +7,5 @@ pub mod KnownRules
 pub mod OneNext
 pub mod SessionRules
 pub mod KeySets
+pub mod OneSession
+pub mod NextRight

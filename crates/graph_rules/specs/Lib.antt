@@ -7,3 +7,4 @@ pub mod Sound
 pub mod Histories
 pub mod Graphs
 pub mod Next
+pub mod NextSessions

@@ -7,11 +7,11 @@ use Rattle.mini_java.specs.Headline.{IsOfTheRules}
 use Rattle.named_files.specs.Projects.{SourceFile}
 use Rattle.packed_files.specs.Runs.{packed_runs}
 use Rattle.profiles.specs.declared.profile.Profile.{Profile}
-use Rattle.reports.specs.Auditing.{AreAcceptedTexts}
-use Rattle.reports.specs.ChainWords.{chain_words}
-use Rattle.reports.specs.Chains.{IsAcceptedOver, RefusesOver}
-use Rattle.reports.specs.Refusals.{refused_line}
-use Rattle.reports.specs.declared.auditing.AuditTexts.{AuditTexts}
+use Rattle.commands.specs.Auditing.{AreAcceptedTexts}
+use Rattle.commands.specs.ChainWords.{chain_words}
+use Rattle.commands.specs.Chains.{IsAcceptedOver, RefusesOver}
+use Rattle.commands.specs.Refusals.{refused_line}
+use Rattle.commands.specs.declared.auditing.AuditTexts.{AuditTexts}
 use Rattle.result_bytes.specs.declared.value.Value.{Value}
 use Rattle.sessions.specs.Sessions.{SessionValue}
 use Rattle.linkable.specs.Chains.{AreNoChain}

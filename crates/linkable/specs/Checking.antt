@@ -1,10 +1,10 @@
 -- What a check in memory reports.
 use Rattle.std.specs.Prelude.{◌≡◌, ◌⊎◌, ℕ, Bool, List, [], Option}
-use Rattle.cached_check.specs.Checks.{IsMadeOver}
+use Rattle.commands.specs.Checks.{IsMadeOver}
 use Rattle.named_files.specs.Projects.{SourceFile}
 use Rattle.profiles.specs.Profiles.{profile_number}
-use Rattle.reports.specs.Checking.{AreSessionTexts}
-use Rattle.reports.specs.declared.texts.AnswerTexts.{AnswerTexts}
+use Rattle.commands.specs.Checking.{AreSessionTexts}
+use Rattle.commands.specs.declared.texts.AnswerTexts.{AnswerTexts}
 use Rattle.sessions.specs.Sessions.{SessionValue}
 use Rattle.sessions.specs.Spelling.{file_of}
 use Rattle.sessions.specs.declared.terms.Terms.{Terms}

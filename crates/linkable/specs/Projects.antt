@@ -6,7 +6,7 @@ use Rattle.packed_files.specs.FlawWords.{flaw_line}
 use Rattle.packed_files.specs.Packing.{packed}
 use Rattle.packed_files.specs.Unpacking.{IsFlawed}
 use Rattle.packed_files.specs.declared.flaws.Flaw.{Flaw}
-use Rattle.reports.specs.Refusals.{refusal_words}
+use Rattle.commands.specs.Refusals.{refusal_words}
 
 -- The bytes are these files, packed, and they are a project.
 pub record IsProjectIn (bytes : List ℕ) (files : List SourceFile) : Type 0 where

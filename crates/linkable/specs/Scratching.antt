@@ -1,7 +1,7 @@
 -- What is reported of files in memory that are checked from scratch.
 use Rattle.std.specs.Prelude.{◌≡◌, ◌⊎◌, ℕ, Bool, List}
 use Rattle.diagnostic_lines.specs.Lines.{IsFaultText, is_clean}
-use Rattle.reports.specs.Refusals.{refusal_words}
+use Rattle.commands.specs.Refusals.{refusal_words}
 use Rattle.named_files.specs.Projects.{SourceFile, IsProject, Refuses}
 use Rattle.named_files.specs.declared.project.ProjectFault.{ProjectFault}
 use Rattle.mj_rules.specs.AnswerWords.{AnswerValue, text_of}

@@ -1,7 +1,7 @@
 -- What a call reports to its caller.
 use Rattle.std.specs.Prelude.{ℕ, Bool, true, false, List, [], string_bytes}
-use Rattle.reports.specs.declared.auditing.AuditTexts.{AuditTexts}
-use Rattle.reports.specs.declared.texts.AnswerTexts.{AnswerTexts}
+use Rattle.commands.specs.declared.auditing.AuditTexts.{AuditTexts}
+use Rattle.commands.specs.declared.texts.AnswerTexts.{AnswerTexts}
 use Rattle.linkable.specs.declared.told.Ending.{Ending}
 use Rattle.linkable.specs.declared.told.Ending.TheVariants as ending
 use Rattle.linkable.specs.declared.told.Told.{Told}

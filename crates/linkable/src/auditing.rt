@@ -1,7 +1,7 @@
 //! The audit of a chain of sessions.
 ghost use Rattle.std.specs.Prelude.{◌≡◌, ◌⊎◌, IfOk, IfErr, map};
 ghost use Rattle.std.specs.Arc.{arc_value};
-ghost use Rattle.reports.specs.Chains.{IsAcceptedOver, RefusesOver};
+ghost use Rattle.commands.specs.Chains.{IsAcceptedOver, RefusesOver};
 ghost use Rattle.linkable.specs.Auditing.{AreSourcesIn, IsByTheRules, TellsAccepted, TellsAudit, TellsRefused};
 ghost use Rattle.linkable.specs.Projects.{IsNoProjectIn};
 ghost use Rattle.linkable.specs.Stopping.{Says};
@@ -12,9 +12,9 @@ use crate::projects::project_in;
 use crate::stopping::Stop;
 use crate::told::Told;
 use audit_graph::AuditFault;
+use commands::{accepted_texts, chain_refusal};
 use mini_java::{Audited, accepted_chains_are_the_rules, audit_chain, audit_chain_against};
 use named_files::Project;
-use reports::{accepted_texts, chain_refusal};
 use std::alloc::{AllocError, Global};
 
 /// What is reported of the chain of the files that these bytes are, over the sources if there are any.

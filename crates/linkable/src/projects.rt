@@ -5,9 +5,9 @@ ghost use Rattle.linkable.specs.Projects.{AreNoProject, IsNoProjectIn, IsProject
 ghost use Rattle.linkable.specs.Stopping.{Says};
 
 use crate::stopping::Stop;
+use commands::refusal_text;
 use named_files::Project;
 use packed_files::{UnpackFault, flaw_text, unpack};
-use reports::refusal_text;
 use std::alloc::Global;
 
 /// The project of the files that these bytes are.

@@ -7,9 +7,9 @@ use crate::projects::project_in;
 use crate::stopping::Stop;
 use crate::terms::profile_of;
 use crate::told::Told;
+use commands::scratch_texts;
 use named_files::Project;
 use profiles::Profile;
-use reports::scratch_texts;
 use std::alloc::{AllocError, Global};
 
 /// What is reported of the files that these bytes are.

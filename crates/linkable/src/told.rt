@@ -2,8 +2,8 @@
 ghost use Rattle.std.specs.Prelude.{◌≡◌, string_bytes};
 ghost use Rattle.linkable.specs.Telling.{answer_status, answer_telling, chain_refusal, chain_telling, ending_status, no_session, refusal, session_told_of, told_of};
 
+use commands::{AnswerTexts, AuditTexts};
 use devices::MemorySink;
-use reports::{AnswerTexts, AuditTexts};
 use std::alloc::Global;
 
 /// How a call that has texts ends.

@@ -1,5 +1,5 @@
 //! Evaluates keys in stores, which are the tables of sessions as workers see them: a key whose previous edges are
-//! unchanged is marked green, any other is run. A single-threaded table is such a store.
+//! unchanged is marked green, any other is run.
 #![tactic(auto)]
 
 mod asking;
@@ -8,13 +8,13 @@ mod evaluating;
 mod fault;
 mod giving_up;
 mod runs;
-mod solo;
 mod steps;
 mod store;
+mod tables;
 mod worker;
 
 pub use evaluating::ensure;
 pub use fault::Fault;
-pub use solo::{Solo, ask_table};
 pub use store::Store;
+pub use tables::ask_table;
 pub use worker::Worker;

@@ -3,7 +3,7 @@ ghost use Rattle.std.specs.Prelude.{IfOk};
 ghost use Rattle.query_rules.specs.Queries.{queries};
 ghost use Rattle.sessions.specs.Terms.{first_terms};
 ghost use Rattle.sessions.specs.Sessions.{session_in};
-ghost use Rattle.next_sessions.specs.Nexts.{StandsApart, IsNextSession};
+ghost use Rattle.graph_rules.specs.NextSessions.{StandsApart, IsNextSession};
 ghost use Rattle.driver.specs.Sessions.{DriveGives};
 
 use crate::lists::ClassJobs;

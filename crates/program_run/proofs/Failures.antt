@@ -10,8 +10,8 @@ use Rattle.session_cache.specs.Starts.{IsUnreadableCache, path_of}
 use Rattle.session_cache.specs.declared.fault.CacheReadFault.{CacheReadFault}
 use Rattle.session_cache.specs.declared.fault.CacheReadFault.TheVariants as cache
 use Rattle.session_cache.specs.declared.place.SessionPlace.{SessionPlace}
-use Rattle.cached_check.specs.Checks.{IsBeginning}
-use Rattle.cached_check.specs.declared.beginning.Beginning.{Beginning}
+use Rattle.commands.specs.Checks.{IsBeginning}
+use Rattle.commands.specs.declared.beginning.Beginning.{Beginning}
 use Rattle.command_line.specs.declared.asked.WordsFault.{WordsFault}
 use Rattle.command_line.specs.declared.asked.WordsFault.TheVariants as words
 use Rattle.command_line.specs.CommandLine.{Asks}
@@ -20,8 +20,8 @@ use Rattle.command_line.specs.declared.asked.Words.TheVariants as asked
 use Rattle.command_line.specs.declared.asked.AuditWords.{AuditWords}
 use Rattle.sessions.specs.Sessions.{SessionValue}
 use Rattle.program_run.specs.Audits.{AuditFails, IsStopped, SourcesFail, StopsAt, file_names, source_names}
-use Rattle.reports.specs.declared.auditing.AuditTexts.{AuditTexts}
-use Rattle.reports.specs.declared.texts.AnswerTexts.{AnswerTexts}
+use Rattle.commands.specs.declared.auditing.AuditTexts.{AuditTexts}
+use Rattle.commands.specs.declared.texts.AnswerTexts.{AnswerTexts}
 use Rattle.program_run.specs.Endings.{accepted_report, answer_report, status_of_answer, status_of_failure}
 use Rattle.program_run.specs.Failures.{AreUnshown, CheckFails, FailsAt, LastFails, MayFail, ShowFails, unwritten_path}
 use Rattle.program_run.specs.Shows.{AreLastOfMany, LacksNamedIn, LacksRecord, RefusesOneOf, index_named, of_words}

@@ -5,7 +5,7 @@ use Rattle.named_files.specs.Projects.{SourceFile, names_of}
 use Rattle.profiles.specs.declared.profile.Profile.{Profile}
 use Rattle.mini_java.specs.AnswerValues.{IsAnswerValue}
 use Rattle.result_bytes.specs.declared.value.Value.{Value}
-use Rattle.reports.specs.Chains.{IsAcceptedOver}
+use Rattle.commands.specs.Chains.{IsAcceptedOver}
 use Rattle.program_run.specs.Audits.{IsProjectOf}
 
 -- a project of some names is that of these names

@@ -11,14 +11,14 @@ use Rattle.audit_graph.specs.declared.fault.AuditFault.{AuditFault}
 use Rattle.audit_graph.specs.declared.fault.AuditFault.TheVariants as chain
 use Rattle.session_file.specs.declared.fault.FileFault.TheVariants as file
 use Rattle.profiles.specs.declared.profile.Profile.{Profile}
-use Rattle.cached_check.specs.Lines.{counts_of}
+use Rattle.commands.specs.Lines.{counts_of}
 use Rattle.mini_java.specs.Headline.{ChainRefuses}
 use Rattle.mini_java.specs.Taken.{HasTaken}
 use Rattle.mini_java.specs.declared.auditor.ChainAuditor.{ChainAuditor}
 use Rattle.command_line.specs.declared.asked.AuditWords.{AuditWords}
-use Rattle.reports.specs.Auditing.{AreAcceptedTexts}
-use Rattle.reports.specs.Chains.{IsAcceptedOver, RefusesOver}
-use Rattle.reports.specs.declared.auditing.AuditTexts.{AuditTexts}
+use Rattle.commands.specs.Auditing.{AreAcceptedTexts}
+use Rattle.commands.specs.Chains.{IsAcceptedOver, RefusesOver}
+use Rattle.commands.specs.declared.auditing.AuditTexts.{AuditTexts}
 use Rattle.program_run.specs.Endings.{accepted_report}
 use Rattle.program_run.specs.Unread.{NamesFail}
 use Rattle.program_run.specs.declared.failure.Failure.{Failure}

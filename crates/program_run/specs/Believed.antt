@@ -8,7 +8,7 @@ use Rattle.mj_rules.specs.AnswerWords.{AnswerValue, text_of}
 use Rattle.mj_rules.specs.Rules.{Rules}
 use Rattle.query_rules.specs.Queries.{queries}
 use Rattle.sessions.specs.Sessions.{SessionValue}
-use Rattle.next_sessions.specs.Nexts.{StandsApart}
+use Rattle.graph_rules.specs.NextSessions.{StandsApart}
 use Rattle.command_line.specs.CommandLine.{Asks}
 use Rattle.command_line.specs.declared.asked.CheckWords.{CheckWords}
 use Rattle.command_line.specs.declared.asked.Words.TheVariants as words

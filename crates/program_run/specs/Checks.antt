@@ -6,10 +6,10 @@ use Rattle.sessions.specs.Sessions.{SessionValue}
 use Rattle.sessions.specs.Terms.{form_number}
 use Rattle.sessions.specs.declared.terms.Terms.{Terms}
 use Rattle.command_line.specs.declared.asked.CheckWords.{CheckWords}
-use Rattle.cached_check.specs.Checks.{IsBeginning, IsNextAt}
-use Rattle.cached_check.specs.declared.beginning.Beginning.{Beginning}
-use Rattle.reports.specs.Checking.{AreSessionTexts}
-use Rattle.reports.specs.declared.texts.AnswerTexts.{AnswerTexts}
+use Rattle.commands.specs.Checks.{IsBeginning, IsNextAt}
+use Rattle.commands.specs.declared.beginning.Beginning.{Beginning}
+use Rattle.commands.specs.Checking.{AreSessionTexts}
+use Rattle.commands.specs.declared.texts.AnswerTexts.{AnswerTexts}
 use Rattle.program_run.specs.Endings.{answer_report}
 use Rattle.program_run.specs.declared.report.Report.{Report}
 

@@ -3,8 +3,8 @@ use Rattle.std.specs.Prelude.{ℕ, Bool, true, false, [], ◌∷◌, Contains}
 use Rattle.audit_graph.specs.declared.fault.AuditFault.TheVariants as chain
 use Rattle.named_files.specs.declared.project.ProjectFault.TheVariants as project
 use Rattle.session_file.specs.declared.fault.FileFault.TheVariants as file
-use Rattle.reports.specs.declared.auditing.AuditTexts.{AuditTexts}
-use Rattle.reports.specs.declared.texts.AnswerTexts.{AnswerTexts}
+use Rattle.commands.specs.declared.auditing.AuditTexts.{AuditTexts}
+use Rattle.commands.specs.declared.texts.AnswerTexts.{AnswerTexts}
 use Rattle.program_run.specs.declared.failure.Failure.{Failure}
 use Rattle.program_run.specs.declared.failure.Failure.TheVariants as failure
 use Rattle.program_run.specs.declared.report.Report.{Report}

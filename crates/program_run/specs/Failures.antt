@@ -4,8 +4,8 @@ use Rattle.std.specs.declared.alloc.Global.{Global}
 use Rattle.session_cache.specs.Starts.{IsUnreadableCache, path_of}
 use Rattle.session_cache.specs.declared.fault.CacheReadFault.TheVariants as cache
 use Rattle.session_cache.specs.declared.place.SessionPlace.{SessionPlace}
-use Rattle.cached_check.specs.Checks.{IsBeginning}
-use Rattle.cached_check.specs.declared.beginning.Beginning.{Beginning}
+use Rattle.commands.specs.Checks.{IsBeginning}
+use Rattle.commands.specs.declared.beginning.Beginning.{Beginning}
 use Rattle.code_words.specs.Explained.{first_unknown}
 use Rattle.command_line.specs.CommandLine.{Asks}
 use Rattle.command_line.specs.Plain.{asks_plainly}

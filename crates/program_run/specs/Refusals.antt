@@ -3,8 +3,8 @@ use Rattle.std.specs.Prelude.{◌≡◌, ℕ, List, [], ◌++◌, codes, string_
 use Rattle.session_text.specs.FaultWords.{fault_words}
 use Rattle.code_words.specs.Explained.{unknown_text_of}
 use Rattle.command_line.specs.declared.asked.WordsFault.TheVariants as words
-use Rattle.reports.specs.ChainWords.{chain_words}
-use Rattle.reports.specs.Refusals.{refusal_words, refused_line}
+use Rattle.commands.specs.ChainWords.{chain_words}
+use Rattle.commands.specs.Refusals.{refusal_words, refused_line}
 use Rattle.program_run.specs.declared.failure.Failure.{Failure}
 use Rattle.program_run.specs.declared.failure.Failure.TheVariants as failure
 

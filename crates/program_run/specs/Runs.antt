@@ -14,10 +14,10 @@ use Rattle.command_line.specs.declared.asked.ScratchWords.{ScratchWords}
 use Rattle.command_line.specs.declared.asked.Subcommand.{Subcommand}
 use Rattle.command_line.specs.declared.asked.Words.{Words}
 use Rattle.command_line.specs.declared.asked.Words.TheVariants as words
-use Rattle.reports.specs.ChainWords.{chain_words}
-use Rattle.reports.specs.Refusals.{refused_line}
-use Rattle.reports.specs.Scratching.{AreScratchTexts}
-use Rattle.reports.specs.declared.texts.AnswerTexts.{AnswerTexts}
+use Rattle.commands.specs.ChainWords.{chain_words}
+use Rattle.commands.specs.Refusals.{refused_line}
+use Rattle.commands.specs.Scratching.{AreScratchTexts}
+use Rattle.commands.specs.declared.texts.AnswerTexts.{AnswerTexts}
 use Rattle.program_run.specs.Audits.{AuditFails, AuditsTo, StopsAt}
 use Rattle.program_run.specs.Checks.{ChecksAsked}
 use Rattle.program_run.specs.Endings.{answer_report}

@@ -1,7 +1,7 @@
 //! The lines of a run that is refused.
 ghost use Rattle.std.specs.Prelude.{◌≡◌, IfOk, string_bytes};
 ghost use Rattle.session_text.specs.FaultWords.{fault_words};
-ghost use Rattle.reports.specs.Refusals.{refused_line};
+ghost use Rattle.commands.specs.Refusals.{refused_line};
 ghost use Rattle.program_run.specs.Endings.{status_of_failure};
 ghost use Rattle.program_run.specs.Refusals.{no_record_line, unreadable_line, unwritten_line};
 ghost use Rattle.program_run.specs.declared.failure.Failure.TheVariants as failure;

@@ -5,7 +5,7 @@ ghost use Rattle.std.specs.IoError.{error_kind};
 ghost use Rattle.program_run.specs.Endings.{accepted_report, answer_report, status_of_answer};
 ghost use Rattle.program_run.specs.Runs.{IsWritten, status_number};
 
-use reports::{AnswerTexts, AuditTexts};
+use commands::{AnswerTexts, AuditTexts};
 use std::alloc::Global;
 use std::io;
 use std::io::{ErrorKind, Write};

@@ -21,7 +21,7 @@ use crate::subcommands::showing::show;
 use crate::subcommands::why::why;
 use code_words::unknown_text;
 use command_line::{Words, WordsFault, words};
-use reports::{chain_refusal, refusal_text};
+use commands::{chain_refusal, refusal_text};
 use std::alloc::{AllocError, Global};
 use std::io::Write;
 use std::rt::Files;

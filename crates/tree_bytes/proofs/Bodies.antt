@@ -13,7 +13,7 @@ use Rattle.tree_bytes.specs.Bodies.{BodyValue, OfMain, OfMethod, BodyFits, body,
 use Rattle.tree_bytes.specs.BodyLaws.{lawful_body}
 use Rattle.tree_spelling.specs.FileLaws.{lawful_tagged, lawful_top_stmt}
 use Rattle.tree_spelling.specs.Reading.{top_stmt_at, tagged_method_at, types_at}
-use Rattle.tree_spelling.specs.Skipping.{behind}
+use Rattle.tree_skipping.specs.Skipping.{behind}
 use Rattle.tree_spelling.specs.Spelling.{ty, variable, exp, stmt, stmts, count_stmts, method}
 use Rattle.tree_spelling.specs.TypeLaws.{lawful_ty, lawful_variable}
 use Rattle.tree_spelling.specs.Storable.{MethodFits, TopStmtFits}

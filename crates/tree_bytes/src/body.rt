@@ -5,7 +5,7 @@ ghost use Rattle.byte_readers.specs.Reading.{Decodes};
 ghost use Rattle.tree_bytes.specs.Bodies.{OfMain, OfMethod, BodyFits, body, body_at, statement_of, method_of, types_of};
 ghost use Rattle.tree_bytes.specs.BodyViews.{body_view, types_view};
 ghost use Rattle.tree_spelling.specs.Reading.{top_stmt_at, tagged_method_at};
-ghost use Rattle.tree_spelling.specs.Skipping.{Skips, behind};
+ghost use Rattle.tree_skipping.specs.Skipping.{Skips, behind};
 ghost use Rattle.tree_spelling.specs.Storable.{TopStmtFits, MethodFits};
 
 use crate::methods::read_types;
@@ -14,9 +14,8 @@ use mj_tree::{MethodTree, Stmt, Ty, Variable};
 use ordered_names::Name;
 use std::alloc::{AllocError, Global};
 use std::marker::Model;
-use tree_spelling::{
-    put_method, put_top_stmt, read_method, read_top_stmt, skip_method, skip_top_stmt,
-};
+use tree_skipping::{skip_method, skip_top_stmt};
+use tree_spelling::{put_method, put_top_stmt, read_method, read_top_stmt};
 
 /// What a body belongs to.
 pub enum MainOrMethod {

@@ -9,7 +9,8 @@ use crate::formats::{ClassTreeFormat, MainFormat, MethodFormat};
 use crate::stored::{StoredClass, StoredFile, StoredMain};
 use byte_readers::{NameFormat, ReadError, check_name, read_list, read_name, read_option};
 use std::alloc::Global;
-use tree_spelling::{FieldFormat, skip_top_stmt};
+use tree_skipping::skip_top_stmt;
+use tree_spelling::FieldFormat;
 
 /// Reads a main class.
 #[tactic(auto, unfolding(tree_spelling::specs::Reading::main_at))]

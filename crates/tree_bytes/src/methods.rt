@@ -2,14 +2,15 @@
 ghost use Rattle.std.specs.Prelude.{◌≡◌};
 ghost use Rattle.byte_readers.specs.Reading.{Decodes};
 ghost use Rattle.tree_spelling.specs.Reading.{tagged_method_at, types_at};
-ghost use Rattle.tree_spelling.specs.Skipping.{Skips};
+ghost use Rattle.tree_skipping.specs.Skipping.{Skips};
 ghost use Rattle.tree_bytes.specs.BodyViews.{types_view};
 
 use crate::body::{Body, MethodHead};
 use crate::stored::StoredMethod;
 use byte_readers::{Breach, ReadError, not_canonical, read_list, read_name_text};
 use std::alloc::Global;
-use tree_spelling::{VariableFormat, read_ty, skip_method};
+use tree_skipping::skip_method;
+use tree_spelling::{VariableFormat, read_ty};
 
 /// Reads the types that a method declares, behind its name.
 pub fn read_types(alloc: Global, bytes: &[u8]) -> Result<(MethodHead, &[u8]), ReadError>

@@ -1,3 +1,2 @@
 pub mod Levels
 pub mod Written
-pub mod Skipped

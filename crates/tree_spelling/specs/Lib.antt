@@ -2,7 +2,6 @@ pub mod Tags
 pub mod Spelling
 pub mod Storable
 pub mod Reading
-pub mod Skipping
 pub mod Codes
 pub mod TagLaws
 pub mod TypeLaws

@@ -2,7 +2,7 @@
 ghost use Rattle.std.specs.Prelude.{◌≡◌, IfOk, string_bytes};
 ghost use Rattle.program_run.specs.Audits.{progress_line};
 
-use cached_check::counts_text;
+use commands::counts_text;
 use sessions::Session;
 use std::alloc::{AllocError, Global};
 use std::fmt::Write;

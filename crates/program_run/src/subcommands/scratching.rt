@@ -9,8 +9,8 @@ use crate::files::read_files;
 use crate::report::Report;
 use crate::terms::profile_of;
 use command_line::ScratchWords;
+use commands::scratch_texts;
 use mj_rules::Project;
-use reports::scratch_texts;
 use std::rt::Files;
 
 /// The report on these files, by the rules of the profile.

@@ -1,5 +1,0 @@
-use Rattle.std.proofs.lemmas.Option.{none-some}
-use Rattle.cached_check.proofs.laws.first_stands_apart.Goals as goal
-
-pub returns : goal.returns
-returns c s = record { past_is = tt; apart = λ v w a b same. absurd (none-some a.entry a.has) }

@@ -1,2 +1,0 @@
-pub mod OneSession
-pub mod NextRight

@@ -1,5 +1,0 @@
-use Rattle.next_sessions.proofs.OneSession.{one_session}
-use Rattle.next_sessions.proofs.laws.entries_tell_all.Goals as goal
-
-pub returns : goal.returns
-returns c a b a_is b_is terms number link same = one_session a b a_is b_is same terms number link

@@ -1,6 +1,0 @@
-pub mod Auditing
-pub mod ChainWords
-pub mod Chains
-pub mod Checking
-pub mod Refusals
-pub mod Scratching

@@ -1,6 +1,0 @@
-use Rattle.std.proofs.Common.{◌≡◌, ◌-◌}
-use Rattle.tree_spelling.specs.Skipping.{items_left, variable_left}
-use Rattle.tree_spelling.proofs.skip.parts.skip_all_variables.Given as goal
-
-abbrev pub invariant-loop : goal.invariant-loop
-invariant-loop l = items_left variable_left (l.count - l.counter) l.rest ≡ items_left variable_left l.count l.bytes
