@@ -1,44 +1,18 @@
 //! Sessions of one class, by their records: its text is edited, or the terms change.
 
-use profiles::Profile;
-use session_fixtures::FIRST;
-use sessions::{Form, Terms};
-use table_fixtures::{Change, Other};
-
-/// Profile 1 and form 1.
-pub(crate) const FIRST_TERMS: Terms = Terms {
-    profile: Profile::One,
-    form: Form::One,
-};
-
-/// Profile 1 and form 2.
-pub(crate) const SECOND_FORM: Terms = Terms {
-    profile: Profile::One,
-    form: Form::Two,
-};
-
-/// Profile 2 and form 1.
-pub(crate) const SECOND_PROFILE: Terms = Terms {
-    profile: Profile::Two,
-    form: Form::One,
-};
-
-/// Profile 2 and form 2.
-const SECOND_TERMS: Terms = Terms {
-    profile: Profile::Two,
-    form: Form::Two,
-};
+use session_fixtures::{FIRST, FIRST_TERMS, SECOND_FORM, SECOND_OF_BOTH};
+use table_fixtures::{ALL_QUERIES, Change, OF_EDIT, PRINTS_2};
 
 /// All ten queries are executed.
-const EXECUTED: Change = Change {
+pub(crate) const EXECUTED: Change = Change {
     terms: FIRST_TERMS,
     records: FIRST,
-    executed: &[2, 3, 4, 5, 6, 7, 8, 9, 10, 11],
+    executed: ALL_QUERIES,
     others: &[],
 };
 
 /// All ten queries are green, in form 2.
-const GREEN_IN_FORM_2: Change = Change {
+pub(crate) const GREEN_IN_FORM_2: Change = Change {
     terms: SECOND_FORM,
     records: FIRST,
     executed: &[],
@@ -51,26 +25,13 @@ static THERE_AND_BACK: [Change; 3] = [
     Change {
         terms: FIRST_TERMS,
         records: FIRST,
-        executed: &[2, 3, 4, 5, 9, 11],
-        others: &[
-            Other {
-                at: 1,
-                digits: "0101000000000000004a636c617373204d207b207075626c69632073746174696320766f6964206d61696e28537472696e675b5d206129207b2053797374656d2e6f75742e7072696e746c6e2832293b207d207d",
-            },
-            Other {
-                at: 2,
-                digits: "020101014d030000000b0800000011000000020000000000000000",
-            },
-            Other {
-                at: 5,
-                digits: "050100030000000b080000001100000002",
-            },
-        ],
+        executed: OF_EDIT,
+        others: PRINTS_2,
     },
     Change {
         terms: FIRST_TERMS,
         records: FIRST,
-        executed: &[2, 3, 4, 5, 9, 11],
+        executed: OF_EDIT,
         others: &[],
     },
 ];
@@ -86,7 +47,7 @@ static IN_FORM_2: [Change; 3] = [
     Change {
         terms: SECOND_FORM,
         records: FIRST,
-        executed: &[2, 3, 4, 5, 6, 7, 8, 9, 10, 11],
+        executed: ALL_QUERIES,
         others: &[],
     },
     GREEN_IN_FORM_2,
@@ -98,13 +59,13 @@ static IN_FORM_2: [Change; 3] = [
 static MIXED: [Change; 5] = [
     EXECUTED,
     Change {
-        terms: SECOND_TERMS,
+        terms: SECOND_OF_BOTH,
         records: FIRST,
         executed: &[8],
         others: &[],
     },
     Change {
-        terms: SECOND_TERMS,
+        terms: SECOND_OF_BOTH,
         records: FIRST,
         executed: &[],
         others: &[],

@@ -1,8 +1,8 @@
 //! How often one worker runs the keys of a session: each that is executed just once.
 
-use crate::texts::{EDITED, ONE, TWO};
 use answer_fixtures::Unfit;
 use crew_fixtures::{File, Runs, chain, one_body, runs_in, runs_of};
+use session_fixtures::{ONE, TWO, TWO_EDITED};
 use std::test::*;
 
 /// The files of a first session, those of one behind it, and how many keys are executed in each.
@@ -22,7 +22,7 @@ const ROWS: &[Row] = &[
     },
     Row {
         files: &[File("M.java", TWO)],
-        edited: &[File("M.java", EDITED)],
+        edited: &[File("M.java", TWO_EDITED)],
         first: 21,
         second: 10,
     },

@@ -1,8 +1,7 @@
 //! Sessions by several workers: that they make the same files, that their runs go on at the same time, and that all end if one is
 //! refused memory.
 
-use crate::changes::{FIRST_TERMS, SECOND_FORM, SECOND_PROFILE};
-use crate::texts::{COVARIANT, EDITED, ONE, TWO};
+use crate::texts::COVARIANT;
 use answer_fixtures::Unfit;
 use crew_fixtures::{
     BothTerms, Edit, File, Made, Steps, all_stop, digest_by, fault_of_failing, fault_of_worker,
@@ -10,6 +9,7 @@ use crew_fixtures::{
 };
 use item_ids::Kind;
 use mini_java::DriveFault;
+use session_fixtures::{FIRST_TERMS, ONE, SECOND_FORM, SECOND_PROFILE, TWO, TWO_EDITED};
 use std::alloc::Global;
 use std::sync::Wait;
 use std::test::*;
@@ -24,7 +24,7 @@ const ALIKE: BothTerms = BothTerms {
 /// A body is edited.
 const EDIT: Edit = Edit {
     file: File("M.java", TWO),
-    edited: EDITED,
+    edited: TWO_EDITED,
 };
 
 /// Nothing is edited.

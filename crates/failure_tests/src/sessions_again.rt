@@ -1,9 +1,8 @@
 //! Sessions that are refused memory, and made again, and how often a gate is called meanwhile.
 
-use crate::changes::{FIRST_TERMS, SECOND_FORM, SECOND_PROFILE};
-use crate::texts::ONE;
+use crate::changes::{EXECUTED, GREEN_IN_FORM_2};
 use crew_fixtures::{gates_are_called_once, run_again};
-use session_fixtures::FIRST;
+use session_fixtures::{FIRST, ONE, SECOND_FORM, SECOND_PROFILE};
 use std::alloc::Global;
 use std::sync::Wait;
 use std::test::*;
@@ -13,18 +12,8 @@ use table_fixtures::Change;
 /// Sessions of the class that prints 1, one over the other: all ten queries are executed; in form 2 all are green; in
 /// profile 2 the check of the class is executed again; in profile 1 and form 2 it is once more.
 static CHAIN: [Change; 4] = [
-    Change {
-        terms: FIRST_TERMS,
-        records: FIRST,
-        executed: &[2, 3, 4, 5, 6, 7, 8, 9, 10, 11],
-        others: &[],
-    },
-    Change {
-        terms: SECOND_FORM,
-        records: FIRST,
-        executed: &[],
-        others: &[],
-    },
+    EXECUTED,
+    GREEN_IN_FORM_2,
     Change {
         terms: SECOND_PROFILE,
         records: FIRST,

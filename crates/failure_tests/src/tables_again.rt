@@ -1,11 +1,10 @@
 //! The calls of tables, each made again if it is refused memory.
 
-use crate::changes::{FIRST_TERMS, executed, green, one_session};
-use crate::texts::ONE;
+use crate::changes::{executed, green, one_session};
 use answer_fixtures::KeyParts;
 use item_ids::Kind;
 use job_table::{CloseFault, TableFault};
-use session_fixtures::twice;
+use session_fixtures::{FIRST_TERMS, ONE, twice};
 use std::alloc::Global;
 use std::test::*;
 use table_fixtures::{Call, Calls, Change, History, Said, Saying, are_said, is_history};

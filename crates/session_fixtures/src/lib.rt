@@ -7,6 +7,8 @@ mod first;
 mod records;
 mod second;
 mod stalling;
+mod terms;
+mod texts;
 mod tries;
 
 pub use failing::{Failing, FailingFeed, FailingSink, Manner};
@@ -18,4 +20,6 @@ pub use first::FIRST;
 pub use records::{Kept, session_as, session_of};
 pub use second::{digest_behind, digest_over, fault_over, file_behind, greened};
 pub use stalling::StallingWriter;
+pub use terms::{FIRST_TERMS, SECOND_FORM, SECOND_OF_BOTH, SECOND_PROFILE};
+pub use texts::{ONE, TWO, TWO_EDITED};
 pub use tries::twice;

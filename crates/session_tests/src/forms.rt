@@ -4,12 +4,12 @@ use crate::first::first;
 use answer_fixtures::{Unfit, is_print};
 use devices::Feed;
 use fingerprint::Print;
-use profiles::Profile;
 use session_file::FileFault;
 use session_fixtures::{
-    FailingFeed, Manner, digest_behind, digest_over, fault_over, file_behind, file_fault_of,
+    FIRST_TERMS, FailingFeed, Manner, SECOND_FORM, SECOND_OF_BOTH, SECOND_PROFILE, digest_behind,
+    digest_over, fault_over, file_behind, file_fault_of,
 };
-use sessions::{Form, Terms};
+use sessions::Terms;
 use std::alloc::Global;
 use std::test::*;
 
@@ -24,19 +24,13 @@ struct Formed {
 
 const FORMED: &[Formed] = &[
     Formed {
-        terms: Terms {
-            profile: Profile::One,
-            form: Form::One,
-        },
+        terms: FIRST_TERMS,
         bytes: 1192,
         print: "209789e6c5f7bd114365d529e720b0d036fda4e6b74dccb4c5cdc139c99cfa6d",
         alone: None,
     },
     Formed {
-        terms: Terms {
-            profile: Profile::Two,
-            form: Form::One,
-        },
+        terms: SECOND_PROFILE,
         bytes: 1192,
         print: "94cecc4ef13c84f3159029e0f152705cbb747790d2dcb89a3f0bf73bb04bd485",
         alone: None,
@@ -49,20 +43,12 @@ const FORMED: &[Formed] = &[
         alone: Some(FileFault::NoPastResult(2)),
     },
     Formed {
-        terms: Terms {
-            profile: Profile::Two,
-            form: Form::Two,
-        },
+        terms: SECOND_OF_BOTH,
         bytes: 929,
         print: "e52e3d15064de48433a42470313575becc9be3ba871d7cf772982498c7aed4de",
         alone: Some(FileFault::NoPastResult(2)),
     },
 ];
-
-const SECOND_FORM: Terms = Terms {
-    profile: Profile::One,
-    form: Form::Two,
-};
 
 fn is_formed(alloc: Global, row: &Formed) -> Result<bool, Unfit> {
     let file = file_behind(alloc, row.terms, first())?;

@@ -2,10 +2,9 @@
 
 use crate::first::first;
 use answer_fixtures::Unfit;
-use profiles::Profile;
 use session_file::{FileFault, digest, read_after, read_after_by};
-use session_fixtures::{file_behind, session_of};
-use sessions::{Form, Session, Terms};
+use session_fixtures::{FIRST_TERMS, SECOND_FORM, file_behind, session_of};
+use sessions::{Session, Terms};
 use std::alloc::Global;
 use std::test::*;
 use std::thread::Threads;
@@ -14,22 +13,7 @@ use std::thread::Threads;
 const WORKERS: [usize; 4] = [1, 2, 3, 5];
 
 /// The second session in both forms, and how many bytes its file has.
-const FILES: [(Terms, usize); 2] = [
-    (
-        Terms {
-            profile: Profile::One,
-            form: Form::One,
-        },
-        1192,
-    ),
-    (
-        Terms {
-            profile: Profile::One,
-            form: Form::Two,
-        },
-        929,
-    ),
-];
+const FILES: [(Terms, usize); 2] = [(FIRST_TERMS, 1192), (SECOND_FORM, 929)];
 
 /// What reading comes to: the digest that the session keeps, or the fault.
 fn told(read: Result<Session, FileFault>) -> Result<[u8; 32], FileFault> {

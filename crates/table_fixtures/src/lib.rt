@@ -10,9 +10,11 @@ mod histories;
 mod replays;
 mod runs;
 mod tables;
+mod worked;
 
 pub use calls::{Call, Calls, Said, Saying, are_said};
 pub use changes::{Change, Other, digest_of_change, past_behind, past_of};
 pub use driving::{Counts, Unmade, are_reported, drive_fault};
 pub use histories::{History, is_history};
 pub use replays::{Replay, replay_of};
+pub use worked::{ALL_QUERIES, OF_EDIT, PRINTS_2};

@@ -2,11 +2,12 @@
 //! check of a class alone goes by the profile.
 
 use crate::calls::{INDEX, Row, TREE, is_answered};
-use crate::records::{CHECKED, FIRST_TERMS, ONE, PLAIN, SECOND_PROFILE, TRUE};
+use crate::records::{CHECKED, PLAIN, TRUE};
 use answer_fixtures::KeyParts;
 use item_ids::Kind;
 use job_table::TableFault;
 use profiles::Profile;
+use session_fixtures::{FIRST_TERMS, ONE, SECOND_PROFILE};
 use std::test::*;
 use table_fixtures::{Call, Said, Saying};
 

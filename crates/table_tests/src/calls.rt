@@ -1,10 +1,11 @@
 //! The calls of tables in turn, and what each says.
 
-use crate::records::{COMMENTED, FIRST_TERMS, ONE, PLAIN, SECOND_PROFILE, TRUE, sessions_of_one};
+use crate::records::{COMMENTED, PLAIN, TRUE, sessions_of_one};
 use answer_fixtures::{KeyParts, Unfit};
 use item_ids::Kind;
 use job_table::{CloseFault, ReplayFault, TableFault};
 use profiles::Profile;
+use session_fixtures::{FIRST_TERMS, ONE, SECOND_PROFILE};
 use sessions::Terms;
 use std::alloc::Global;
 use std::test::*;

@@ -1,8 +1,8 @@
 //! What is reported of sessions that are run, why there is none, and the texts of those faults.
 
-use crate::records::{FIRST_TERMS, ONE, SECOND_PROFILE};
 use mark_green::Fault;
 use mini_java::DriveFault;
+use session_fixtures::{FIRST_TERMS, ONE, SECOND_PROFILE};
 use std::alloc::Global;
 use std::sync::Wait;
 use std::test::*;

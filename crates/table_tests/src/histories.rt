@@ -1,16 +1,12 @@
 //! Whole sessions: which keys are executed, how many events lead there, and what the table closes with.
 
-use crate::records::{
-    FIRST_TERMS, MISSING, ONE, SECOND_PROFILE, SESSIONS_ACROSS, SESSIONS_OF_TWO, TWO,
-    sessions_of_one,
-};
+use crate::records::{MISSING, SESSIONS_ACROSS, SESSIONS_OF_TWO, sessions_of_one};
 use answer_fixtures::Unfit;
-use profiles::Profile;
-use session_fixtures::Kept;
-use sessions::{Form, Terms};
+use session_fixtures::{FIRST_TERMS, Kept, ONE, SECOND_FORM, SECOND_PROFILE, TWO, TWO_EDITED};
+use sessions::Terms;
 use std::alloc::Global;
 use std::test::*;
-use table_fixtures::{Change, History, Other, is_history};
+use table_fixtures::{ALL_QUERIES, Change, History, OF_EDIT, Other, PRINTS_2, is_history};
 
 /// A session of these terms and of a project of this text behind so many sessions of a chain, with the keys and edges of
 /// the chain's first: which records are executed, which have another result, what is run beside them and reached by
@@ -53,7 +49,7 @@ static ROWS_OF_ONE: [Row; 6] = [
         terms: FIRST_TERMS,
         behind: 0,
         text: ONE,
-        executed: &[2, 3, 4, 5, 6, 7, 8, 9, 10, 11],
+        executed: ALL_QUERIES,
         others: &[],
         beside: &[],
         events: 30,
@@ -63,7 +59,7 @@ static ROWS_OF_ONE: [Row; 6] = [
         terms: FIRST_TERMS,
         behind: 0,
         text: ONE,
-        executed: &[2, 3, 4, 5, 6, 7, 8, 9, 10, 11],
+        executed: ALL_QUERIES,
         others: &[],
         beside: MISSING,
         events: 33,
@@ -97,21 +93,8 @@ static ROWS_OF_ONE: [Row; 6] = [
         terms: FIRST_TERMS,
         behind: 1,
         text: "class M { public static void main(String[] a) { System.out.println(2); } }",
-        executed: &[2, 3, 4, 5, 9, 11],
-        others: &[
-            Other {
-                at: 1,
-                digits: "0101000000000000004a636c617373204d207b207075626c69632073746174696320766f6964206d61696e28537472696e675b5d206129207b2053797374656d2e6f75742e7072696e746c6e2832293b207d207d",
-            },
-            Other {
-                at: 2,
-                digits: "020101014d030000000b0800000011000000020000000000000000",
-            },
-            Other {
-                at: 5,
-                digits: "050100030000000b080000001100000002",
-            },
-        ],
+        executed: OF_EDIT,
+        others: PRINTS_2,
         beside: &[],
         events: 26,
     },
@@ -120,7 +103,7 @@ static ROWS_OF_ONE: [Row; 6] = [
         terms: FIRST_TERMS,
         behind: 2,
         text: ONE,
-        executed: &[2, 3, 4, 5, 9, 11],
+        executed: OF_EDIT,
         others: &[],
         beside: &[],
         events: 26,
@@ -152,7 +135,7 @@ static ROWS_OF_TWO: [Row; 2] = [
     Row {
         terms: FIRST_TERMS,
         behind: 1,
-        text: "class M { public static void main(String[] a) { System.out.println(new A().f()); } } class A { public int f() { return 3; } public int g() { return 2; } }",
+        text: TWO_EDITED,
         executed: &[2, 3, 4, 5, 6, 7, 8, 9, 17, 22],
         others: &[
             Other {
@@ -186,7 +169,7 @@ static ROWS_ACROSS: [Row; 6] = [
         terms: SECOND_PROFILE,
         behind: 0,
         text: ONE,
-        executed: &[2, 3, 4, 5, 6, 7, 8, 9, 10, 11],
+        executed: ALL_QUERIES,
         others: &[],
         beside: &[],
         events: 30,
@@ -207,29 +190,13 @@ static ROWS_ACROSS: [Row; 6] = [
         behind: 1,
         text: "class M { public static void main(String[] a) { System.out.println(2); } }",
         executed: &[2, 3, 4, 5, 8, 9, 11],
-        others: &[
-            Other {
-                at: 1,
-                digits: "0101000000000000004a636c617373204d207b207075626c69632073746174696320766f6964206d61696e28537472696e675b5d206129207b2053797374656d2e6f75742e7072696e746c6e2832293b207d207d",
-            },
-            Other {
-                at: 2,
-                digits: "020101014d030000000b0800000011000000020000000000000000",
-            },
-            Other {
-                at: 5,
-                digits: "050100030000000b080000001100000002",
-            },
-        ],
+        others: PRINTS_2,
         beside: &[],
         events: 27,
     },
     // One in form 2, of the same profile: all ten are green.
     Row {
-        terms: Terms {
-            profile: Profile::One,
-            form: Form::Two,
-        },
+        terms: SECOND_FORM,
         behind: 1,
         text: ONE,
         executed: &[],

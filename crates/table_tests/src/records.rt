@@ -2,30 +2,9 @@
 
 use answer_fixtures::KeyParts;
 use item_ids::Kind;
-use profiles::Profile;
-use session_fixtures::{FIRST, Kept};
-use sessions::{Form, Mark, Terms};
-use table_fixtures::{Change, Other};
-
-/// A main class that prints 1.
-pub(crate) const ONE: &str =
-    "class M { public static void main(String[] a) { System.out.println(1); } }";
-
-/// A main class that prints what a method of a second class returns, which has two methods.
-pub(crate) const TWO: &str =
-    "class M { public static void main(String[] a) { System.out.println(new A().f()); } } class A { public int f() { return 1; } public int g() { return 2; } }";
-
-/// Profile 1 and form 1.
-pub(crate) const FIRST_TERMS: Terms = Terms {
-    profile: Profile::One,
-    form: Form::One,
-};
-
-/// Profile 2 and form 1.
-pub(crate) const SECOND_PROFILE: Terms = Terms {
-    profile: Profile::Two,
-    form: Form::One,
-};
+use session_fixtures::{FIRST, FIRST_TERMS, Kept, SECOND_OF_BOTH};
+use sessions::Mark;
+use table_fixtures::{ALL_QUERIES, Change, OF_EDIT, PRINTS_2};
 
 /// A chain of sessions of the class that prints 1: all ten queries are executed; and then, when it prints 2, the tree,
 /// the index, the header, the method, the check of its body and the answer.
@@ -33,27 +12,14 @@ static SESSIONS_OF_ONE: [Change; 2] = [
     Change {
         terms: FIRST_TERMS,
         records: FIRST,
-        executed: &[2, 3, 4, 5, 6, 7, 8, 9, 10, 11],
+        executed: ALL_QUERIES,
         others: &[],
     },
     Change {
         terms: FIRST_TERMS,
         records: FIRST,
-        executed: &[2, 3, 4, 5, 9, 11],
-        others: &[
-            Other {
-                at: 1,
-                digits: "0101000000000000004a636c617373204d207b207075626c69632073746174696320766f6964206d61696e28537472696e675b5d206129207b2053797374656d2e6f75742e7072696e746c6e2832293b207d207d",
-            },
-            Other {
-                at: 2,
-                digits: "020101014d030000000b0800000011000000020000000000000000",
-            },
-            Other {
-                at: 5,
-                digits: "050100030000000b080000001100000002",
-            },
-        ],
+        executed: OF_EDIT,
+        others: PRINTS_2,
     },
 ];
 
@@ -69,14 +35,11 @@ pub(crate) static SESSIONS_ACROSS: [Change; 2] = [
     Change {
         terms: FIRST_TERMS,
         records: FIRST,
-        executed: &[2, 3, 4, 5, 6, 7, 8, 9, 10, 11],
+        executed: ALL_QUERIES,
         others: &[],
     },
     Change {
-        terms: Terms {
-            profile: Profile::Two,
-            form: Form::Two,
-        },
+        terms: SECOND_OF_BOTH,
         records: FIRST,
         executed: &[8],
         others: &[],

@@ -6,12 +6,9 @@ use audit_graph::AuditFault;
 use audit_replay::audit_against;
 use named_files::Project;
 use providers::MiniJava;
-use session_fixtures::{FIRST, file_of};
+use session_fixtures::{FIRST, ONE, file_of};
 use std::alloc::Global;
 use std::test::*;
-
-/// A main class that prints 1, which the first session is of.
-const ONE: &str = "class M { public static void main(String[] a) { System.out.println(1); } }";
 
 /// A main class that prints true.
 const TRUE: &str = "class M { public static void main(String[] a) { System.out.println(true); } }";

@@ -7,9 +7,8 @@ use crate::audits::said::{
 use answer_fixtures::KeyParts;
 use audit_graph::AuditFault;
 use item_ids::Kind;
-use profiles::Profile;
-use session_fixtures::Kept;
-use sessions::{Form, Mark, Terms};
+use session_fixtures::{Kept, SECOND_PROFILE};
+use sessions::Mark;
 use std::test::*;
 
 const HEADER: KeyParts<'static> = KeyParts(Kind::Header, "a", "");
@@ -219,11 +218,9 @@ fn an_unchanged_session_is_accepted_and_nothing_of_it_is_run(rt: HostRuntime) {
 
 #[test]
 fn what_does_not_go_by_the_profile_is_taken_over_from_another_one(rt: HostRuntime) {
-    let terms = Terms {
-        profile: Profile::Two,
-        form: Form::One,
-    };
-    assert!(rt; said_of_two_as(rt.alloc(), terms, FIRST, UNCHANGED) == Said::Accepted(2, 3));
+    assert!(rt;
+        said_of_two_as(rt.alloc(), SECOND_PROFILE, FIRST, UNCHANGED) == Said::Accepted(2, 3)
+    );
 }
 
 // The check is green, with other edges than in that session.

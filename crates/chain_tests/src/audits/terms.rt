@@ -9,8 +9,11 @@ use devices::MemorySink;
 use item_ids::Kind;
 use profiles::Profile;
 use providers::MiniJava;
-use session_fixtures::{FIRST, Kept, digest_of, file_of, file_of_session, session_as};
-use sessions::{Form, Mark, Terms};
+use session_fixtures::{
+    FIRST, FIRST_TERMS, Kept, SECOND_FORM, SECOND_OF_BOTH, SECOND_PROFILE, digest_of, file_of,
+    file_of_session, session_as,
+};
+use sessions::{Mark, Terms};
 use std::alloc::{AllocError, Global};
 use std::test::*;
 
@@ -25,58 +28,37 @@ struct Row {
 // Ten records of the first session were executed. Record 8 is the check of its class.
 const ROWS: &[Row] = &[
     Row {
-        terms: Terms {
-            profile: Profile::One,
-            form: Form::One,
-        },
+        terms: FIRST_TERMS,
         checked: false,
         said: Said::Accepted(2, 10),
     },
     Row {
-        terms: Terms {
-            profile: Profile::One,
-            form: Form::Two,
-        },
+        terms: SECOND_FORM,
         checked: false,
         said: Said::Accepted(2, 10),
     },
     Row {
-        terms: Terms {
-            profile: Profile::One,
-            form: Form::One,
-        },
+        terms: FIRST_TERMS,
         checked: true,
         said: Said::Accepted(2, 11),
     },
     Row {
-        terms: Terms {
-            profile: Profile::Two,
-            form: Form::One,
-        },
+        terms: SECOND_PROFILE,
         checked: false,
         said: Said::Refused(AuditFault::GreenAcrossProfiles(1, 8)),
     },
     Row {
-        terms: Terms {
-            profile: Profile::Two,
-            form: Form::Two,
-        },
+        terms: SECOND_OF_BOTH,
         checked: false,
         said: Said::Refused(AuditFault::GreenAcrossProfiles(1, 8)),
     },
     Row {
-        terms: Terms {
-            profile: Profile::Two,
-            form: Form::One,
-        },
+        terms: SECOND_PROFILE,
         checked: true,
         said: Said::Accepted(2, 11),
     },
     Row {
-        terms: Terms {
-            profile: Profile::Two,
-            form: Form::Two,
-        },
+        terms: SECOND_OF_BOTH,
         checked: true,
         said: Said::Accepted(2, 11),
     },

@@ -4,11 +4,10 @@ use crate::caches::first::first;
 use crate::caches::starts::find_start;
 use answer_fixtures::Unfit;
 use devices::MemorySink;
-use profiles::Profile;
 use session_cache::{NotFollowed, Note, SessionPlace, Start};
 use session_file::FileFault;
-use session_fixtures::{file_as, greened};
-use sessions::{Form, Session, Terms};
+use session_fixtures::{FIRST_TERMS, SECOND_FORM, SECOND_OF_BOTH, file_as, greened};
+use sessions::{Session, Terms};
 use std::alloc::Global;
 use std::fs;
 use std::rt::Files;
@@ -36,18 +35,6 @@ struct Stored {
     green: bool,
     turn: Turn,
 }
-
-/// Profile 1 and form 1.
-const FIRST_TERMS: Terms = Terms {
-    profile: Profile::One,
-    form: Form::One,
-};
-
-/// Profile 1 and form 2.
-const SECOND_FORM: Terms = Terms {
-    profile: Profile::One,
-    form: Form::Two,
-};
 
 // First sessions of both forms, and those of number 1 and 2.
 const FIRST_OF_1: Stored = Stored {
@@ -130,10 +117,7 @@ const READ: &[Row] = &[
         files: &[
             FIRST_OF_1,
             Stored {
-                terms: Terms {
-                    profile: Profile::Two,
-                    form: Form::Two,
-                },
+                terms: SECOND_OF_BOTH,
                 ..SECOND_OF_2
             },
             THIRD_OF_2,
