@@ -1,7 +1,6 @@
 //! Sessions by several workers: that they make the same files, that their runs go on at the same time, and that all end if one is
 //! refused memory.
 
-use crate::texts::COVARIANT;
 use answer_fixtures::Unfit;
 use crew_fixtures::{
     BothTerms, Edit, File, Made, Steps, all_stop, digest_by, fault_of_failing, fault_of_worker,
@@ -26,6 +25,10 @@ const EDIT: Edit = Edit {
     file: File("M.java", TWO),
     edited: TWO_EDITED,
 };
+
+/// A class overrides a method with one that returns a subclass. That is a fault in profile 1, and none in profile 2.
+const COVARIANT: &str =
+    "class M { public static void main(String[] a) { System.out.println(1); } } class A { public A g() { return this; } } class B extends A { public B g() { return this; } }";
 
 /// Nothing is edited.
 const COVARIANT_EDIT: Edit = Edit {

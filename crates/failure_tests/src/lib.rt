@@ -19,5 +19,3 @@ mod feeds;
 mod sessions_again;
 #[cfg(test)]
 mod tables_again;
-#[cfg(test)]
-mod texts;

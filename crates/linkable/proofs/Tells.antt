@@ -11,7 +11,7 @@ use Rattle.sessions.specs.declared.terms.Form.{Form}
 use Rattle.sessions.specs.declared.terms.Form.TheVariants as forms
 use Rattle.linkable.specs.Auditing.{AreSourcesIn, TellsAccepted, TellsAudit, TellsRefused}
 use Rattle.linkable.specs.Chains.{AreNoChain}
-use Rattle.linkable.specs.Checking.{CheckInput, RefusesCheck}
+use Rattle.linkable.specs.Checking.{CheckInput, HasTerms, RefusesCheck}
 use Rattle.linkable.specs.Past.{IsNoPastIn}
 use Rattle.linkable.specs.Projects.{IsNoProjectIn, IsProjectIn}
 use Rattle.linkable.specs.Scratching.{TellsAnswer, TellsScratch, TellsUnpacked}
@@ -69,14 +69,22 @@ module _ (input : CheckInput) (why : Stop) where
   pub refused_profile : Says (IsNoProfile input.profile) why → Says (RefusesCheck input) why
   refused_profile says = says_weaker (IsNoProfile input.profile) (RefusesCheck input) (λ line it. inl it) why says
 
-  pub refused_form : Says (IsNoForm input.form) why → Says (RefusesCheck input) why
-  refused_form says = says_weaker (IsNoForm input.form) (RefusesCheck input) (λ line it. inr (inl it)) why says
+  pub refused_form : (profile : Profile) → profile_number profile ≡ input.profile → Says (IsNoForm input.form) why → Says (RefusesCheck input) why
+  refused_form profile numbered says =
+      says_weaker (IsNoForm input.form) (RefusesCheck input) (λ line it. inr (inl (record { profile = record { profile = profile; numbered = numbered }; form = it }))) why says
 
-  pub refused_project : Says (IsNoProjectIn input.files) why → Says (RefusesCheck input) why
-  refused_project says = says_weaker (IsNoProjectIn input.files) (RefusesCheck input) (λ line it. inr (inr (inl it))) why says
+  module _ (profile : Profile) (form : Form) (profile_is : profile_number profile ≡ input.profile) (form_is : IsForm input.form form) where
+    -- a profile and a form have the numbers
+    terms : HasTerms input
+    terms = (record { profile = profile; numbered = profile_is }, record { form = form; numbered = form_is })
 
-  pub refused_past : Says (IsNoPastIn input.past) why → Says (RefusesCheck input) why
-  refused_past says = says_weaker (IsNoPastIn input.past) (RefusesCheck input) (λ line it. inr (inr (inr it))) why says
+    pub refused_project : Says (IsNoProjectIn input.files) why → Says (RefusesCheck input) why
+    refused_project says =
+        says_weaker (IsNoProjectIn input.files) (RefusesCheck input) (λ line it. inr (inr (inl (record { terms = terms; files = it })))) why says
+
+    pub refused_past : (files : List SourceFile) → IsProjectIn input.files files → Says (IsNoPastIn input.past) why → Says (RefusesCheck input) why
+    refused_past files project says =
+        says_weaker (IsNoPastIn input.past) (RefusesCheck input) (λ line it. inr (inr (inr (record { terms = terms; files = files; project = project; past = it })))) why says
 
 -- ---- a chain
 
@@ -88,5 +96,6 @@ of_chain (Err e) chain sources files project packed_are project_is tells = tt
 pub no_sources : (chain sources line : List ℕ) (told : Telling) → IsNoProjectIn sources line → told ≡ refusal line → TellsAudit chain sources told
 no_sources chain sources line told none e = inr (record { line = line; refuses = inl none; told_is = e })
 
-pub no_chain : (chain sources line : List ℕ) (told : Telling) → AreNoChain chain line → told ≡ refusal line → TellsAudit chain sources told
-no_chain chain sources line told none e = inr (record { line = line; refuses = inr none; told_is = e })
+pub no_chain : (chain sources line : List ℕ) (project : Option (List SourceFile)) (told : Telling) → AreSourcesIn sources project → AreNoChain chain line → told ≡ refusal line → TellsAudit chain sources told
+no_chain chain sources line project told project_is none e =
+    inr (record { line = line; refuses = inr (record { project = project; project_is = project_is; cut_off = none }); told_is = e })

@@ -60,9 +60,15 @@ pub record TellsAudited (chain sources : List ℕ) (told : Telling) : Type 0 whe
   pub project_is : AreSourcesIn sources project
   pub tells : TellsAccepted files project told ⊎ TellsRefused files project told
 
--- the line says why there is no audit: the sources are no project, or one of the files is cut off
+-- The sources are a project, or there are none, and one of the chain's files is cut off.
+pub record RefusesChain (chain sources line : List ℕ) : Type 0 where
+  pub project : Option (List SourceFile)
+  pub project_is : AreSourcesIn sources project
+  pub cut_off : AreNoChain chain line
+
+-- The line says why there is no audit. The sources are looked at first, then the files of the chain.
 abbrev pub RefusesInput : List ℕ → List ℕ → List ℕ → Type 0
-RefusesInput chain sources line = IsNoProjectIn sources line ⊎ AreNoChain chain line
+RefusesInput chain sources line = IsNoProjectIn sources line ⊎ RefusesChain chain sources line
 
 -- Such a line alone.
 pub record TellsNoAudit (chain sources : List ℕ) (told : Telling) : Type 0 where

@@ -11,7 +11,7 @@ use Rattle.sessions.specs.declared.terms.Terms.{Terms}
 use Rattle.linkable.specs.Past.{IsNoPastIn, IsPastIn}
 use Rattle.linkable.specs.Projects.{IsNoProjectIn, IsProjectIn}
 use Rattle.linkable.specs.Telling.{SessionTelling, answer_telling, no_session, refusal}
-use Rattle.linkable.specs.Terms.{IsForm, IsNoForm, IsNoProfile}
+use Rattle.linkable.specs.Terms.{HasForm, HasProfile, IsForm, IsNoForm, IsNoProfile}
 
 -- What was handed over: bytes that are files, bytes that are the files of sessions, and the numbers of
 -- the profile and the form.
@@ -48,12 +48,33 @@ pub record TellsMade (input : CheckInput) (messages : Bool) (told : SessionTelli
   pub past_is : IsPastIn input.past past
   pub session : TellsSession terms messages files past told
 
--- The line says why there is no session: no profile has the number, or no form; the files are no
--- project; or no session follows the past.
+-- The profile is known, and no form has the number.
+pub record RefusesForm (input : CheckInput) (line : List ℕ) : Type 0 where
+  pub profile : HasProfile input.profile
+  pub form : IsNoForm input.form line
+
+-- A profile and a form have the numbers.
+abbrev pub HasTerms : CheckInput → Type 0
+HasTerms input = HasProfile input.profile × HasForm input.form
+
+-- The terms are known, and the files are no project.
+pub record RefusesFiles (input : CheckInput) (line : List ℕ) : Type 0 where
+  pub terms : HasTerms input
+  pub files : IsNoProjectIn input.files line
+
+-- The terms are known, the files are a project, and no session follows the past.
+pub record RefusesPast (input : CheckInput) (line : List ℕ) : Type 0 where
+  pub terms : HasTerms input
+  pub files : List SourceFile
+  pub project : IsProjectIn input.files files
+  pub past : IsNoPastIn input.past line
+
+-- The line says why there is no session. The number of the profile is looked at first, then that of the
+-- form, the files, and the past.
 abbrev pub RefusesCheck : CheckInput → List ℕ → Type 0
 RefusesCheck input line =
-    IsNoProfile input.profile line ⊎ IsNoForm input.form line ⊎ IsNoProjectIn input.files line
-    ⊎ IsNoPastIn input.past line
+    IsNoProfile input.profile line ⊎ RefusesForm input line ⊎ RefusesFiles input line
+    ⊎ RefusesPast input line
 
 -- Such a line alone.
 pub record TellsNoSession (input : CheckInput) (told : SessionTelling) : Type 0 where

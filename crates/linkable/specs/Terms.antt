@@ -17,6 +17,16 @@ no_form_line number = codes "refused: no form " ++ decimal number ++ codes "\n"
 abbrev pub IsForm : ℕ → Form → Type 0
 IsForm number form = form_number form + 1 ≡ number
 
+-- A profile has this number.
+pub record HasProfile (number : ℕ) : Type 0 where
+  pub profile : Profile
+  pub numbered : profile_number profile ≡ number
+
+-- A form has this number.
+pub record HasForm (number : ℕ) : Type 0 where
+  pub form : Form
+  pub numbered : IsForm number form
+
 -- No profile has this number, and the line says so.
 pub record IsNoProfile (number : ℕ) (line : List ℕ) : Type 0 where
   pub unknown : (profile : Profile) → profile_number profile ≡ number → ⊥
