@@ -120,12 +120,20 @@ def reasons():
     return found
 
 
+def line_for(why, crate, function):
+    """The path that the reason's line has: the function's own, or that of a module or type in which it stands."""
+    parts = function.split("::")
+    paths = ("::".join(parts[:count]) for count in range(len(parts), 0, -1))
+    return next((it for it in paths if (crate, it) in why), function)
+
+
 def unexplained(found, why):
     """The lines on what docs/planted.txt has no line for, bodies that were proved and runs, and on its lines for nothing."""
     name, used = REASONS.relative_to(TOP), set()
     for row in found:
         whole = [(row.crate, None)] * bool(row.proved) if row.bodies is None else []
-        asked = [("run", str(row.run)), *whole, *((row.crate, function) for function in row.bodies or ())]
+        lines = {line_for(why, row.crate, it): None for it in row.bodies or ()}
+        asked = [("run", str(row.run)), *whole, *((row.crate, it) for it in lines)]
         yield from (f"{name}: no line {' '.join(filter(None, it))}" for it in asked if it not in why and it not in used)
         used.update(asked)
     yield from (f"{name}: no row has {' '.join(filter(None, it))}" for it in why if it not in used)
@@ -138,8 +146,8 @@ def proved_cell(row, why, is_first):
     if row.bodies is None:
         return f"{row.proved}: {why.get((row.crate, None), '')}" if is_first else f"{row.proved} of those above"
     parts = {}
-    for function in row.bodies:
-        parts.setdefault(why.get((row.crate, function), ""), []).append(f"`{function}`")
+    for path in dict.fromkeys(line_for(why, row.crate, it) for it in sorted(row.bodies)):
+        parts.setdefault(why.get((row.crate, path), ""), []).append(f"`{path}`")
     said = [f"{', '.join(functions)}: {reason}" for reason, functions in parts.items()]
     return f"{row.proved}: " + "; ".join([f"of {row.same} {SAME}" if said else SAME] * bool(row.same) + said)
 
