@@ -24,7 +24,7 @@ use Rattle.commands.specs.declared.auditing.AuditTexts.{AuditTexts}
 use Rattle.commands.specs.declared.texts.AnswerTexts.{AnswerTexts}
 use Rattle.program_run.specs.Endings.{accepted_report, answer_report, status_of_answer, status_of_failure}
 use Rattle.program_run.specs.Failures.{AreUnshown, CheckFails, FailsAt, LastFails, MayFail, ShowFails, unwritten_path}
-use Rattle.program_run.specs.Shows.{AreLastOfMany, LacksNamedIn, LacksRecord, RefusesOneOf, index_named, of_words}
+use Rattle.program_run.specs.Shows.{AreLastOfMany, LacksNamedIn, LacksRecord, index_named, of_words}
 use Rattle.program_run.specs.Unread.{AreUnread, IsUnreadFile, NamesFail, cache_failure}
 use Rattle.program_run.specs.Refusals.{IsFailureText}
 use Rattle.program_run.specs.Runs.{IsAnswerStatus, RefusesAudit, ReportsFailure, ReportsRefusal, ReportsUnreadable}
@@ -120,10 +120,10 @@ pub unread_last : (names : List (List ℕ)) (why : Failure) → AreUnread names 
 unread_last names (failure.SessionFile fault) f = absurd f
 unread_last names why f = f
 
-pub unshown_last : (names : List (List ℕ)) (many : ℕ) (why : Failure) → many ≡ length names → AreUnshown many why → LastFails names why
-unshown_last names many (failure.SessionFile fault) same f = subst (λ n. RefusesOneOf n fault) same f
-unshown_last names many failure.OutOfMemory same f = tt
-unshown_last names many why same f = absurd f
+pub unshown_last : (names files : List (List ℕ)) (why : Failure) → length files ≡ length names → AreUnshown files why → LastFails names why
+unshown_last names files (failure.SessionFile fault) many f = record { files = files; are_many = many; refuses = f }
+unshown_last names files failure.OutOfMemory many f = tt
+unshown_last names files why many f = absurd f
 
 -- and without one nothing is shown
 pub last_show : (names : List (List ℕ)) (of : Option (String Global)) (why : Failure) → LastFails names why → ShowFails names of why

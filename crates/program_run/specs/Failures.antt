@@ -16,7 +16,7 @@ use Rattle.command_line.specs.declared.asked.WordsFault.{WordsFault}
 use Rattle.command_line.specs.declared.asked.WordsFault.TheVariants as refusal
 use Rattle.sessions.specs.Sessions.{SessionValue}
 use Rattle.program_run.specs.Audits.{AuditFails}
-use Rattle.program_run.specs.Shows.{LacksNamed, RefusesOneOf, RefusesFile, of_words}
+use Rattle.program_run.specs.Shows.{LacksNamed, RefusesOneOf, RefusesOneOfMany, RefusesFile, of_words}
 use Rattle.program_run.specs.Unread.{AreUnread, NamesFail}
 use Rattle.program_run.specs.declared.failure.Failure.{Failure}
 use Rattle.program_run.specs.declared.failure.Failure.TheVariants as failure
@@ -52,16 +52,16 @@ IsUnshown past bytes (failure.SessionFile fault) = RefusesFile past bytes fault
 IsUnshown past bytes failure.OutOfMemory = Unit {0}
 IsUnshown past bytes _ = ⊥
 
--- why so many files aren't shown
-abbrev pub AreUnshown : ℕ → Failure → Type 0
-AreUnshown many (failure.SessionFile fault) = RefusesOneOf many fault
-AreUnshown many failure.OutOfMemory = Unit {0}
-AreUnshown many _ = ⊥
+-- why these files aren't shown
+abbrev pub AreUnshown : List (List ℕ) → Failure → Type 0
+AreUnshown files (failure.SessionFile fault) = RefusesOneOf files fault
+AreUnshown files failure.OutOfMemory = Unit {0}
+AreUnshown files _ = ⊥
 
 -- why there is no last session of files of these names: one can't be read; else one isn't that of a
 -- session over the one before; or memory ran out
 abbrev pub LastFails : List (List ℕ) → Failure → Type 0
-LastFails names (failure.SessionFile fault) = RefusesOneOf (length names) fault
+LastFails names (failure.SessionFile fault) = RefusesOneOfMany (length names) fault
 LastFails names why = AreUnread names why
 
 -- why `show` and `why` fail on files of these names: there is no last session, or it has no record of

@@ -1,9 +1,9 @@
 -- What is shown and said of the last session of a chain.
-use Rattle.std.specs.Prelude.{◌≡◌, ◌<◌, ◌+◌, ℕ, true, false, Bool, List, [], Option, Some, None, Err, length, option_map, position, String, string_bytes, vec_len}
-use Rattle.std.specs.List.{AllByRecursion}
+use Rattle.std.specs.Prelude.{◌≡◌, ◌∷◌, ◌++◌, ℕ, true, false, Bool, List, [], Option, Some, None, Err, length, option_map, position, String, string_bytes, vec_len}
 use Rattle.std.specs.Str.{bytes_eq}
 use Rattle.std.specs.declared.alloc.Global.{Global}
-use Rattle.sessions.specs.Sessions.{AreTaken, IsSession, IsTakenFrom, SessionValue, key_at}
+use Rattle.sessions.specs.Sessions.{IsSession, IsTakenFrom, SessionValue, key_at}
+use Rattle.sessions.specs.Spelling.{file_of}
 use Rattle.graph_rules.specs.Settings.{crossing_kinds}
 use Rattle.query_rules.specs.Queries.{is_by_profile}
 use Rattle.item_ids.specs.declared.kind.Kind.{Kind}
@@ -13,7 +13,7 @@ use Rattle.session_text.specs.SessionGraph.{IsDotText}
 use Rattle.session_file.specs.Reading.{file_after}
 use Rattle.session_file.specs.declared.fault.FileFault.{FileFault}
 use Rattle.session_file.specs.declared.fault.FileFault.TheVariants as file
-use Rattle.audit_replay.specs.Audits.{last_of}
+use Rattle.audit_replay.specs.Audits.{HaveFiles, last_of}
 use Rattle.command_line.specs.declared.asked.ShowWords.{ShowWords}
 use Rattle.command_line.specs.declared.asked.WhyWords.{WhyWords}
 use Rattle.program_run.specs.declared.failure.Failure.{Failure}
@@ -22,35 +22,41 @@ use Rattle.program_run.specs.declared.subcommands.last.LastPair.{LastPair}
 use Rattle.program_run.specs.declared.report.Report.{Report}
 use Rattle.program_run.specs.declared.report.Status.TheVariants as status
 
--- It is the last of so many sessions, each of which is taken from the one before.
-pub record IsLastOfMany (many : ℕ) (last : Option SessionValue) : Type 0 where
+-- It is the last of the sessions of these files, each of which is taken from the one before.
+pub record IsLastOf (files : List (List ℕ)) (last : Option SessionValue) : Type 0 where
   pub sessions : List SessionValue
-  pub each : AllByRecursion IsSession sessions
-  pub taken : AreTaken None sessions
-  pub are_many : length sessions ≡ many
+  pub have : HaveFiles sessions files
   pub is_last : last_of None sessions ≡ last
 
--- It is the last of so many sessions, and this the one before it, if there is one.
-pub record AreLastOfMany (many : ℕ) (past : Option SessionValue) (s : SessionValue) : Type 0 where
-  pub front : ℕ
-  pub one_more : many ≡ front + 1
-  pub before : IsLastOfMany front past
+-- It is the last of the sessions of these files, and this the one before it, if there is one.
+pub record AreLastOf (files : List (List ℕ)) (past : Option SessionValue) (s : SessionValue)
+    : Type 0 where
+  pub front : List (List ℕ)
+  pub behind : files ≡ front ++ file_of s ∷ []
+  pub before : IsLastOf front past
   pub session : IsSession s
   pub taken : IsTakenFrom past s
 
--- the last two of so many sessions, if there are any
-abbrev pub IsLastPair : ℕ → Option LastPair → Type 0
-IsLastPair many None = many ≡ 0
-IsLastPair many (Some pair) = AreLastOfMany many pair.past pair.session
+-- the last two of the sessions of these files, if there are any
+abbrev pub IsLastPair : List (List ℕ) → Option LastPair → Type 0
+IsLastPair files None = files ≡ []
+IsLastPair files (Some pair) = AreLastOf files pair.past pair.session
+
+-- They are the last two of the sessions of so many files, or there is but one.
+pub record AreLastOfMany (many : ℕ) (past : Option SessionValue) (s : SessionValue) : Type 0 where
+  pub files : List (List ℕ)
+  pub are_many : length files ≡ many
+  pub last : AreLastOf files past s
 
 abbrev pub last_session : Option LastPair → Option SessionValue
 last_session = option_map (λ pair. pair.session)
 
--- The session comes behind the last one, from which it is taken.
-pub record IsNextPair (last : Option LastPair) (pair : LastPair) : Type 0 where
+-- The session of the file that these bytes are comes behind the last one, from which it is taken.
+pub record IsNextPair (last : Option LastPair) (bytes : List ℕ) (pair : LastPair) : Type 0 where
   pub past : pair.past ≡ last_session last
   pub session : IsSession pair.session
   pub taken : IsTakenFrom pair.past pair.session
+  pub file : bytes ≡ file_of pair.session
 
 -- the index of the record whose key has these words
 abbrev pub index_named : List ℕ → SessionValue → Option ℕ
@@ -124,14 +130,21 @@ abbrev pub RefusesFile : Option SessionValue → List ℕ → FileFault → Type
 RefusesFile past bytes file.OutOfMemory = Unit {0}
 RefusesFile past bytes fault = file_after past bytes ≡ Err fault
 
--- Of so many files one is refused over the last session of those in front.
-pub record RefusesOneOf (many : ℕ) (fault : FileFault) : Type 0 where
-  pub front : ℕ
-  pub within : front < many
+-- One of these files is refused over the last session of those in front.
+pub record RefusesOneOf (files : List (List ℕ)) (fault : FileFault) : Type 0 where
+  pub front : List (List ℕ)
+  pub file : List ℕ
+  pub rest : List (List ℕ)
+  pub parts : files ≡ front ++ file ∷ rest
   pub past : Option SessionValue
-  pub last : IsLastOfMany front past
-  pub bytes : List ℕ
-  pub refused : RefusesFile past bytes fault
+  pub last : IsLastOf front past
+  pub refused : RefusesFile past file fault
+
+-- One of so many files is.
+pub record RefusesOneOfMany (many : ℕ) (fault : FileFault) : Type 0 where
+  pub files : List (List ℕ)
+  pub are_many : length files ≡ many
+  pub refuses : RefusesOneOf files fault
 
 -- The last of so many sessions has no record of the key that was named.
 pub record LacksNamed (many : ℕ) (of : Option (List ℕ)) (words : List ℕ) : Type 0 where

@@ -2,6 +2,7 @@
 ghost use Rattle.std.specs.Prelude.{◌≡◌, ◌<◌, IfOk, IfErr, Some, length, map, string_bytes, vec_len};
 ghost use Rattle.std.specs.Option.{option_copied};
 ghost use Rattle.sessions.specs.Sessions.{IsSession, IsTakenFrom};
+ghost use Rattle.sessions.specs.Spelling.{file_of};
 ghost use Rattle.program_run.specs.Failures.{AreUnshown, IsUnshown, LastFails};
 ghost use Rattle.program_run.specs.Shows.{AreLastOfMany, IsLastPair, IsNextPair, LacksRecord, crossing_of, index_named, last_session};
 
@@ -43,8 +44,8 @@ pub(crate) fn last_two<R: Files + AllocGlobal>(
 // The sessions of the last two of these files, if there is one, each read over the session before. Of those in front of
 // them none is kept.
 fn last_pair(alloc: Global, files: Vec<(String, Vec<u8>)>) -> Result<Option<LastPair>, Failure>
-    ensures last { IfOk result (IsLastPair (vec_len files)) }
-    ensures failed { IfErr result (AreUnshown (vec_len files)) }
+    ensures last { IfOk result (IsLastPair (map (λ file. file.1.items) files.items)) }
+    ensures failed { IfErr result (AreUnshown (map (λ file. file.1.items) files.items)) }
 {
     let mut last = None;
     for file in files {
@@ -55,7 +56,7 @@ fn last_pair(alloc: Global, files: Vec<(String, Vec<u8>)>) -> Result<Option<Last
 
 // The session whose file these bytes are, behind the last one.
 fn next_pair(alloc: Global, last: Option<LastPair>, bytes: &[u8]) -> Result<LastPair, Failure>
-    ensures pair { IfOk result (λ pair. IsNextPair last pair) }
+    ensures pair { IfOk result (λ pair. IsNextPair last bytes.now pair) }
     ensures failed { IfErr result (IsUnshown (last_session last) bytes.now) }
 {
     let past = session_of(last);
@@ -77,6 +78,7 @@ fn session_of(last: Option<LastPair>) -> Option<Session>
 fn read_session(alloc: Global, past: Option<&Session>, bytes: &[u8]) -> Result<Session, Failure>
     ensures session { IfOk result IsSession }
     ensures taken { IfOk result (IsTakenFrom (option_copied past.entry)) }
+    ensures file { IfOk result (λ s. bytes.now ≡ file_of s) }
     ensures failed { IfErr result (IsUnshown (option_copied past.entry) bytes.now) }
 {
     Ok(read_after(alloc, past, bytes)?)
