@@ -1,14 +1,13 @@
 -- The previous session, file by file.
-use Rattle.std.proofs.Common.{◌≡◌, ◌≢◌, ◌∙◌, ◌<◌, ◌≤◌, ◌+◌, inl, inr, ℕ, zero, suc, List, [], ◌∷◌, ◌++◌, Option, Some, None, Result, Ok, Err, length, take, drop, map, refl, sym, ap, subst, arith}
+use Rattle.std.proofs.Common.{◌≡◌, ◌≢◌, ◌∙◌, ◌<◌, ◌≤◌, ◌+◌, inl, inr, ℕ, zero, suc, List, [], ◌∷◌, ◌++◌, Option, Some, None, Result, Err, length, take, drop, map, refl, sym, ap, subst, arith}
 use Rattle.std.specs.Prelude.{slice_get}
-use Rattle.std.specs.List.{AllByRecursion}
 use Rattle.std.proofs.lemmas.Option.{none-some, same_Some, slice_get_within}
 use Rattle.std.proofs.lemmas.List.{length-take, map-append, take_all}
-use Rattle.audit_replay.specs.Audits.{HaveFiles, last_of}
+use Rattle.audit_replay.specs.Audits.{last_of}
 use Rattle.audit_replay.proofs.FileRules.{last_more}
 use Rattle.item_ids.proofs.Lists.{all_push}
 use Rattle.packed_files.specs.Runs.{packed_runs}
-use Rattle.session_file.specs.Reading.{IsUnlessMemory, file_after}
+use Rattle.session_file.specs.Reading.{IsUnlessMemory}
 use Rattle.session_file.specs.declared.fault.FileFault.{FileFault}
 use Rattle.session_file.specs.declared.fault.FileFault.TheVariants as file
 use Rattle.sessions.specs.Sessions.{AreTaken, IsSession, IsTakenFrom, SessionValue}

@@ -1,7 +1,7 @@
 -- The files of a chain of sessions, one behind the other.
 use Rattle.std.specs.Prelude.{◌≡◌, ℕ, List, ◌++◌, codes, decimal}
 use Rattle.packed_files.specs.FlawWords.{flaw_words}
-use Rattle.packed_files.specs.Runs.{IsFlawedRun, packed_runs}
+use Rattle.packed_files.specs.Runs.{IsFlawedRun}
 use Rattle.packed_files.specs.declared.flaws.Flaw.{Flaw}
 
 -- refused: session file 2: 11.9 Trailing

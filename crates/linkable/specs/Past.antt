@@ -1,5 +1,5 @@
 -- The previous session, by the files of its chain.
-use Rattle.std.specs.Prelude.{◌≡◌, ◌⊎◌, ℕ, ◌+◌, ◌≤◌, List, ◌∷◌, ◌++◌, length, Option, Some, None, Err, codes, map}
+use Rattle.std.specs.Prelude.{◌≡◌, ◌⊎◌, ℕ, ◌+◌, ◌≤◌, List, ◌∷◌, ◌++◌, length, Option, Some, None, Err, codes}
 use Rattle.audit_replay.specs.Audits.{HaveFiles, last_of}
 use Rattle.packed_files.specs.Runs.{packed_runs}
 use Rattle.session_file.specs.Reading.{file_after}

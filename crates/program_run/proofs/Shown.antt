@@ -1,5 +1,5 @@
 -- Sessions that are read one over the other.
-use Rattle.std.proofs.Common.{◌≡◌, ◌∙◌, ℕ, ◌<◌, List, [], ◌∷◌, ◌++◌, length, map, Option, Some, None, refl, sym, ap, subst, arith}
+use Rattle.std.proofs.Common.{◌≡◌, ◌∙◌, ℕ, List, [], ◌∷◌, ◌++◌, Option, Some, None, refl, sym, ap, subst}
 use Rattle.std.proofs.lemmas.List.{map-append}
 use Rattle.item_ids.proofs.Lists.{all_push}
 use Rattle.sessions.specs.Sessions.{AreTaken, IsSession, IsTakenFrom, SessionValue}
@@ -49,11 +49,6 @@ next_pair files last bytes pair is next = record {
   session = next.session;
   taken = next.taken;
 }
-
--- of some sessions there is a last one
-pub some_pair : {A : Type 0} (f : A → List ℕ) (xs : List A) → 0 < length xs → IsLastPair (map f xs) None → ⊥
-some_pair f [] some is = absurd (omega (arith, some))
-some_pair f (x ∷ xs) some is = absurd cc
 
 -- ---- why they aren't
 

@@ -27,17 +27,9 @@ contained f (x ∷ ys) y rest =
     let here : suc in_rest.0 < length (map f (x ∷ ys ++ y ∷ rest)) = let b = in_rest.1 in omega arith in
     (suc in_rest.0, here, in_rest.2)
 
-some_behind : {A : Type 0} (ys : List A) (y : A) (rest : List A) → length ys < length (ys ++ y ∷ rest)
-some_behind [] y rest = omega arith
-some_behind (x ∷ ys) y rest = let less = some_behind ys y rest in omega arith
-
 -- the name behind those whose files were read is one of them all
 pub one_of : {A B : Type 0} (f : A → B) (ys : List A) (y : A) (rest all : List A) → ys ++ y ∷ rest ≡ all → Contains (map f all) (f y)
 one_of f ys y rest all is = subst (λ (l : List _). Contains (map f l) (f y)) is (contained f ys y rest)
-
--- there are fewer than all in front of one of them
-pub fewer : {A : Type 0} (ys : List A) (y : A) (rest all : List A) → ys ++ y ∷ rest ≡ all → length ys < length all
-fewer ys y rest all is = subst (λ (l : List _). length ys < length l) is (some_behind ys y rest)
 
 pub all_of : {A : Type 0} (ys rest all : List A) → rest ≡ [] → ys ++ rest ≡ all → ys ≡ all
 all_of ys rest all none is = sym (append-nil ys) ∙ (ap (λ (l : List _). ys ++ l) (sym none) ∙ is)
