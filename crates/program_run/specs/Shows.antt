@@ -42,7 +42,8 @@ abbrev pub IsLastPair : List (List ℕ) → Option LastPair → Type 0
 IsLastPair files None = files ≡ []
 IsLastPair files (Some pair) = AreLastOf files pair.past pair.session
 
--- They are the last two of the sessions of so many files, or there is but one.
+-- There are so many files of whose sessions it is the last, and this the one before it, if there is
+-- one.
 pub record AreLastOfMany (many : ℕ) (past : Option SessionValue) (s : SessionValue) : Type 0 where
   pub files : List (List ℕ)
   pub are_many : length files ≡ many
@@ -140,7 +141,7 @@ pub record RefusesOneOf (files : List (List ℕ)) (fault : FileFault) : Type 0 w
   pub last : IsLastOf front past
   pub refused : RefusesFile past file fault
 
--- One of so many files is.
+-- There are so many files, one of which is refused like this.
 pub record RefusesOneOfMany (many : ℕ) (fault : FileFault) : Type 0 where
   pub files : List (List ℕ)
   pub are_many : length files ≡ many

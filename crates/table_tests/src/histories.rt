@@ -8,8 +8,8 @@ use std::alloc::Global;
 use std::test::*;
 use table_fixtures::{ALL_QUERIES, Change, History, OF_EDIT, Other, PRINTS_2, is_history};
 
-/// The class of the chain's sessions, which prints 1 there, when it prints 2.
-const PRINTING_2: &str =
+/// The text of `ONE`, but that it prints 2.
+const ONE_EDITED: &str =
     "class M { public static void main(String[] a) { System.out.println(2); } }";
 
 /// A session of these terms and of a project of this text behind so many sessions of a chain, with the keys and edges of
@@ -96,7 +96,7 @@ static ROWS_OF_ONE: [Row; 6] = [
     Row {
         terms: FIRST_TERMS,
         behind: 1,
-        text: PRINTING_2,
+        text: ONE_EDITED,
         executed: OF_EDIT,
         others: PRINTS_2,
         beside: &[],
@@ -192,7 +192,7 @@ static ROWS_ACROSS: [Row; 6] = [
     Row {
         terms: SECOND_PROFILE,
         behind: 1,
-        text: PRINTING_2,
+        text: ONE_EDITED,
         executed: &[2, 3, 4, 5, 8, 9, 11],
         others: PRINTS_2,
         beside: &[],
