@@ -1,5 +1,5 @@
 //! A reader over a list of answers.
-ghost use Rattle.std.specs.Prelude.{◌≡◌, ◌⊎◌, [], ◌∷◌, ◌++◌, Contains, OnOk, OnErr, MatchOption, option_copied};
+ghost use Rattle.std.specs.Prelude.{◌≡◌, ◌⊎◌, [], ◌∷◌, ◌++◌, Contains, OnOk, OnErr, MatchOption, length, option_copied};
 ghost use Rattle.std.specs.Arc.{arc_value};
 ghost use Rattle.result_bytes.specs.Values.{IsOfKind};
 ghost use Rattle.recorder.specs.Recording.{IsUnread, first_read};
@@ -50,6 +50,13 @@ impl AnswerList {
             alloc,
             reads: Reads::new(alloc),
         }
+    }
+
+    /// How many answers there are.
+    pub fn len(&self) -> usize
+        ensures { result ≡ length self.now }
+    {
+        self.reads.len()
     }
 
     /// One more answer. A key that has one already keeps it.

@@ -57,6 +57,13 @@ impl Reads {
         }
     }
 
+    /// How many reads there are.
+    pub(crate) fn len(&self) -> usize
+        ensures { result ≡ length self.now }
+    {
+        self.list.len()
+    }
+
     /// The reads in order.
     pub(crate) fn as_slice(&self) -> &[Read]
         ensures { result.now ≡ self.now }
