@@ -34,21 +34,21 @@ use Rattle.graph_rules.proofs.OneNext.{next_is_one}
 
 -- ---- lists
 
-last_cons : {X : Type 0} (xs : List X) (x : X) (ys : List X) → (xs ++ x ∷ []) ++ ys ≡ xs ++ x ∷ ys
+pub last_cons : {X : Type 0} (xs : List X) (x : X) (ys : List X) → (xs ++ x ∷ []) ++ ys ≡ xs ++ x ∷ ys
 last_cons [] x ys = refl
 last_cons {X} (y ∷ xs) x ys = ap (λ (zs : List X). y ∷ zs) (last_cons xs x ys)
 
-has_mid : (xs : List Key) (e : Key) (ys : List Key) → Contains (xs ++ e ∷ ys) e
+pub has_mid : (xs : List Key) (e : Key) (ys : List Key) → Contains (xs ++ e ∷ ys) e
 has_mid xs e ys = let lt : 0 < length (e ∷ ys) = omega arith in Contains-append_right xs (e ∷ ys) e (0, lt, refl)
 
 pub all_at : {X : Type 0} (P : X → Type 0) (xs : List X) → AllByRecursion P xs → (x : X) → Contains xs x → P x
 all_at P xs a x has = All-contains P xs x (All-from_recursion P xs a) has
 
-take_front : (pre : List Key) (rest : List Key) → take (length pre) (pre ++ rest) ≡ pre
+pub take_front : (pre : List Key) (rest : List Key) → take (length pre) (pre ++ rest) ≡ pre
 take_front [] rest = refl
 take_front (x ∷ pre) rest = ap (λ (zs : List Key). x ∷ zs) (take_front pre rest)
 
-take_next : (pre : List Key) (e : Key) (rest : List Key) → take (suc (length pre)) (pre ++ e ∷ rest) ≡ pre ++ e ∷ []
+pub take_next : (pre : List Key) (e : Key) (rest : List Key) → take (suc (length pre)) (pre ++ e ∷ rest) ≡ pre ++ e ∷ []
 take_next [] e rest = refl
 take_next (x ∷ pre) e rest = ap (λ (zs : List Key). x ∷ zs) (take_next pre e rest)
 
@@ -60,7 +60,7 @@ from_take_at (suc n) (x ∷ xs) e (suc k) lt is =
     let h = from_take_at n xs e k (omega arith) is in
     let l : suc h.0 < length (x ∷ xs) = let b = h.1 in omega arith in (suc h.0, l, h.2)
 
-from_take : (n : ℕ) (xs : List Key) (e : Key) → Contains (take n xs) e → Contains xs e
+pub from_take : (n : ℕ) (xs : List Key) (e : Key) → Contains (take n xs) e → Contains xs e
 from_take n xs e has = from_take_at n xs e has.0 has.1 has.2
 
 -- a list of which one element more is the list itself
@@ -79,7 +79,7 @@ take_whole (x ∷ xs) = ap (λ (zs : List Key). x ∷ zs) (take_whole xs)
 
 -- Edges in order: if each next one is among the reads as soon as those before it are good, and is good if it is
 -- among the reads, all are good.
-settle : (Good : Key → Type 0) (all : List Key) (Reads : Key → Type 0)
+pub settle : (Good : Key → Type 0) (all : List Key) (Reads : Key → Type 0)
     → ((pre : List Key) (e : Key) (rest : List Key) → all ≡ pre ++ e ∷ rest → AllByRecursion Good pre → Reads e)
     → ((e : Key) → Contains all e → Reads e → Good e)
     → (pre rest : List Key) → all ≡ pre ++ rest → AllByRecursion Good pre → AllByRecursion Good all
@@ -91,7 +91,7 @@ settle Good all Reads next good pre (e ∷ rest) is before =
 -- ---- edges
 
 -- an unchanged edge to a key that is done so has this fingerprint in the previous session
-unchanged_print : (pr : Option (List ℕ)) (v : Value) (es : List Key) (m : Mark) → edge_at pr (Done v es m) ≡ Unchanged → pr ≡ Some (print_of v)
+pub unchanged_print : (pr : Option (List ℕ)) (v : Value) (es : List Key) (m : Mark) → edge_at pr (Done v es m) ≡ Unchanged → pr ≡ Some (print_of v)
 unchanged_print None v es m e = absurd (cc)
 unchanged_print (Some pr) v es m e =
     (elim (bytes_eq pr (print_of v)) as (λ b. bytes_eq pr (print_of v) ≡ b → (if b then Unchanged else Changed) ≡ Unchanged → Some pr ≡ Some (print_of v)) [
@@ -99,7 +99,7 @@ unchanged_print (Some pr) v es m e =
       | false ↦ λ t f. absurd (cc)
     ]) refl e
 
-unchanged_by : (pr : Option (List ℕ)) (y : Status) (v : Value) (es : List Key) (m : Mark) → pr ≡ Some (print_of v) → y ≡ Done v es m → edge_at pr y ≡ Unchanged
+pub unchanged_by : (pr : Option (List ℕ)) (y : Status) (v : Value) (es : List Key) (m : Mark) → pr ≡ Some (print_of v) → y ≡ Done v es m → edge_at pr y ≡ Unchanged
 unchanged_by pr y v es m p yd =
     let t : bytes_eq (print_of v) (print_of v) ≡ true = (bytes_eq-Decides (print_of v) (print_of v)).1 refl in
     rw (p, yd, t) refl
