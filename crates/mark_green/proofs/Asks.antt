@@ -23,7 +23,7 @@ use Rattle.mark_green.specs.declared.asking.RunStop.TheVariants as stop
 use Rattle.mark_green.specs.Leaves.{Knows, KnowsChange, GoesOn, ClaimsNoInput}
 use Rattle.mark_green.specs.Moves.{IsDoneIn, StopGives, HaltsAtRead}
 use Rattle.mark_green.proofs.GoingOn.{on_none, stays_same, change_map, change_here}
-use Rattle.mark_green.proofs.Running.{same_tables, done_tables, reads_lacks, reads_lost, reads_other, reads_busy, reads_stopped, reads_refused}
+use Rattle.mark_green.proofs.Running.{same_tables, done_tables, reads_lacks, reads_lost, reads_busy, reads_stopped, reads_refused}
 
 module _ (w : ℕ) (q : Key) (a b : Option TableValue) where
   pub asked_same : (v : Arc Value Global) → KnowsChange (λ t u. AskGives t w q (Ok (asked.Done v)) u) a b → b ≡ a
@@ -31,13 +31,6 @@ module _ (w : ℕ) (q : Key) (a b : Option TableValue) where
 
   pub asked_done : (v s : Arc Value Global) → s ≡ v → KnowsChange (λ t u. AskGives t w q (Ok (asked.Done v)) u) a b → Knows (IsDoneIn q (arc_value s)) b
   asked_done v s e h = subst (λ (x : Arc Value Global). Knows (IsDoneIn q (arc_value x)) b) (sym e) (done_tables w q v a b h)
-
-  pub asked_other : (r : ℕ) (v : Arc Value Global) (x : RunStop) → x ≡ stop.OutOfMemory → KnowsChange (λ t u. AskGives t w q (Ok (asked.Done v)) u) a b → HaltsAtRead w r x a b
-  asked_other r v x e h = subst (λ (y : RunStop). HaltsAtRead w r y a b) (sym e) (tt, change_map _ _ (reads_other w r q v) a b h)
-
-  pub asked_kept : (v : Arc Value Global) (o : Result (Arc Value Global) RunStop) → IfErr o (λ x. x ≡ stop.OutOfMemory) → KnowsChange (λ t u. AskGives t w q (Ok (asked.Done v)) u) a b → (r : ℕ) → IfErr o (λ x. HaltsAtRead w r x a b)
-  asked_kept v (Ok s) e h r = tt
-  asked_kept v (Err x) e h r = asked_other r v x e h
 
   pub asked_yours : (r : ℕ) → rank q < r → 0 < rank q → (x : RunStop) → (x ≡ stop.Lacks q) ⊎ (x ≡ stop.OutOfMemory) → KnowsChange (λ t u. AskGives t w q (Ok asked.Yours) u) a b → HaltsAtRead w r x a b
   asked_yours r lt pos x (inl e) h = subst (λ (y : RunStop). HaltsAtRead w r y a b) (sym e) ((lt, pos), change_map _ _ (reads_lacks w r q) a b h)

@@ -8,3 +8,4 @@ pub mod Turning
 pub mod Working
 pub mod Held
 pub mod Told
+pub mod KindRules

@@ -76,9 +76,6 @@ claim_stays w q t u a =
 pub reads_lost : (w r : ℕ) (q : Key) (t u : TableValue) → AskGives t w q (Ok asked.Yours) u → GoesOn t u × StopGives t w r stop.OutOfMemory u
 reads_lost w r q t u a = (claim_on w q t u a, (claim_failed w q t u a, claim_stays w q t u a))
 
-pub reads_other : (w r : ℕ) (q : Key) (v : Arc Value Global) (t u : TableValue) → AskGives t w q (Ok (asked.Done v)) u → GoesOn t u × StopGives t w r stop.OutOfMemory u
-reads_other w r q v t u a = (quiet_on t u a.2, (failed_same t u a.2, stays_same t u a.2))
-
 pub reads_busy : (w r : ℕ) (q : Key) (t u : TableValue) → AskGives t w q (Ok asked.Busy) u → GoesOn t u × StopGives t w r stop.Busy u
 reads_busy w r q t u a = (quiet_on t u a.3, (q, a))
 
@@ -255,8 +252,3 @@ turns_end w q o old new t u v so h st =
 pub turns_ended : (w : ℕ) (q : Key) (told : List ReadValue) (r : Result (Arc Value Global) Fault) (t v z : TableValue) → (HasStatus (Running w) w q t → LeavesClaims t v × AreHeld (state_of v) told) → (HasStatus (Running w) w q v → AreHeld (state_of v) told → WorkGives v w q r z) → HasStatus (Running w) w q t → WorkGives t w q r z
 turns_ended w q told r t v z so e st =
     let l = so st in leaves_work t v z w q r l.0 (e (stands_on (Running w) w q t v l.0 st) l.1)
-
-pub turns_memory : (w : ℕ) (q : Key) (g : Fault) → g ≡ fault.OutOfMemory → (held : List ReadValue) → (t u v : TableValue) → (HasStatus (Running w) w q t → LeavesClaims t u × AreHeld (state_of u) held) → WorkerGivesUp u v → HasStatus (Running w) w q t → RunGives t w (Err g) v
-turns_memory w q g is held t u v so s st =
-    let l = (so st).0 in
-    (subst (λ (x : Fault). IsGivenUp t w x v) (sym is) (stops_then t u v l.goes_on s.stops), stays_up t u v l.stays s)

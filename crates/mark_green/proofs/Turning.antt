@@ -22,7 +22,7 @@ use Rattle.mark_green.specs.Ensures.{WorkGives, FetchGives, TurnGives, RunGives,
 use Rattle.mark_green.specs.Moves.{HaltsAtRead}
 use Rattle.mark_green.proofs.GoingOn.{leaves_none, change_map, change_then, change_here}
 use Rattle.mark_green.proofs.Calling.{work_memory, start_ok, start_ended}
-use Rattle.mark_green.proofs.Running.{stop_gives_up, fetched, work_held, work_lost, turns_none, turns_more, turns_up, turns_end, turns_ended, turns_memory}
+use Rattle.mark_green.proofs.Running.{stop_gives_up, fetched, work_held, work_lost, turns_none, turns_more, turns_up, turns_end, turns_ended}
 
 -- ---- a key that a run lacked
 
@@ -102,9 +102,6 @@ module _ (w : ℕ) (q : Key) where
 
     pub ends_up : (f : Fault) → Turns w q (Err f) old new b c → Ends w q (Err f) a c
     ends_up f h = change_then _ _ _ (turns_up w q f old new) a b c so h
-
-    pub ends_lost : (g : Fault) → g ≡ fault.OutOfMemory → KnowsChange WorkerGivesUp b c → Ends w q (Err g) a c
-    ends_lost g is h = change_then _ _ _ (turns_memory w q g is old) a b c so h
 
 -- ---- a run and its beginning
 

@@ -120,7 +120,7 @@ fn fault_of_read(stop: &RunStop) -> ReadFault
     }
 }
 
-/// The result of a key that is done in the store.
+/// The result of a key that is done in the store, which is of the key's kind.
 fn answer_of<S: Store>(
     alloc: Global,
     store: &mut S,
@@ -136,24 +136,11 @@ fn answer_of<S: Store>(
         (λ x. HaltsAtRead w r x (S.table store.old) (S.table store.new)) }
 {
     match store.ask(w, key) {
-        Ok(Asked::Done(sealed)) => of_kind(key, sealed),
+        Ok(Asked::Done(sealed)) => Ok(sealed),
         Ok(Asked::Yours) => Err(lacks(alloc, key)),
         Ok(Asked::Busy) => Err(RunStop::Busy),
         Ok(Asked::Stopped) => Err(RunStop::Stopped),
         Err(fault) => Err(RunStop::Refused(fault)),
-    }
-}
-
-/// The result, if it is of the key's kind.
-fn of_kind(key: &Key, sealed: Arc<Sealed>) -> Result<Arc<Sealed>, RunStop>
-    ensures same { IfOk result (λ a. a ≡ sealed) }
-    ensures kind { IfOk result (λ a. IsOfKind key.now (arc_value a)) }
-    ensures err { IfErr result (λ x. x ≡ RunStop.OutOfMemory) }
-{
-    if sealed.value().kind() == key.kind() {
-        Ok(sealed)
-    } else {
-        Err(RunStop::OutOfMemory)
     }
 }
 

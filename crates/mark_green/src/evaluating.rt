@@ -1,5 +1,5 @@
 //! Evaluating keys: try-mark-green, and a run if an edge is red.
-ghost use Rattle.std.specs.Prelude.{◌≡◌, ◌<◌, false, [], Some, IfOk, IfSome, length, map};
+ghost use Rattle.std.specs.Prelude.{◌≡◌, ◌<◌, false, [], Some, None, IfOk, IfSome, length, map};
 ghost use Rattle.std.specs.List.{AllByRecursion};
 ghost use Rattle.std.specs.Arc.{arc_value};
 ghost use Rattle.sessions.specs.Sessions.{key_at, session_in};
@@ -17,7 +17,7 @@ use crate::asking::RunStop;
 use crate::edges::{is_same, past_edges};
 use crate::fault::Fault;
 use crate::runs::run_once;
-use crate::steps::{Tried, hold};
+use crate::steps::Tried;
 use crate::store::Store;
 use crate::worker::Worker;
 use fingerprint::Sealed;
@@ -227,12 +227,13 @@ impl<S: Store<Out = Arc<Outcome<R>>>, R: Runner> Worker<'_, S, R> {
             (λ t u. HasStatus (Running self.old.id) self.old.id key.now t
             → RunGives t self.old.id result u) }
     {
-        'again: for _ in 0..u64::MAX {
+        'again: loop {
+            // Each turn that goes on holds one result more, and a list has fewer than 2^64, so that the turns end.
+            let _count = held.len();
             if let Some(outcome) = self.turn(key, held)? {
                 return Ok(outcome);
             }
         }
-        Err(self.give_up(TableFault::OutOfMemory))
     }
 
     /// Runs a key once. If the run lacked a result, evaluates its key and holds the result.
@@ -250,6 +251,7 @@ impl<S: Store<Out = Arc<Outcome<R>>>, R: Runner> Worker<'_, S, R> {
             (S.table self.new.store.now)) }
         ensures told { IfOk result (λ ran. AreTold (S.told self.old.store.now) held.old
             → AreTold (S.told self.new.store.now) (told_or ran held.new)) }
+        ensures longer { IfOk result (λ ran. ran ≡ None → length held.old < length held.new) }
         ensures gives { ChangesTable S.table self.old self.new
             (λ t u. HasStatus (Running self.old.id) self.old.id key.now t
             → AreHeld (state_of t) held.old
@@ -277,13 +279,14 @@ impl<S: Store<Out = Arc<Outcome<R>>>, R: Runner> Worker<'_, S, R> {
         ensures same { IsSameWorker S.told self.old self.new }
         ensures told { IfOk result (λ _. AreTold (S.told self.old.store.now) held.old
             → AreTold (S.told self.new.store.now) held.new) }
+        ensures longer { IfOk result (λ _. length held.old < length held.new) }
         ensures gives { ChangesTable S.table self.old self.new
             (λ t u. HasStatus (Claimed self.old.id) self.old.id lacked t
             → AreHeld (state_of t) held.old
             → FetchGives t self.old.id lacked result held.new u) }
     {
         match self.work(&lacked) {
-            Ok(sealed) => match hold(held, lacked, sealed) {
+            Ok(sealed) => match held.add(lacked, sealed) {
                 Ok(()) => Ok(()),
                 Err(_) => Err(self.give_up(TableFault::OutOfMemory)),
             },

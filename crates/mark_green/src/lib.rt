@@ -16,5 +16,5 @@ mod worker;
 pub use evaluating::ensure;
 pub use fault::Fault;
 pub use store::Store;
-pub use tables::ask_table;
+pub use tables::{ask_table, mark_table};
 pub use worker::Worker;

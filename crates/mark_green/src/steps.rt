@@ -1,5 +1,5 @@
 //! How a worker completes a key.
-ghost use Rattle.std.specs.Prelude.{◌≡◌, ◌↔◌, ◌++◌, [], ◌∷◌, Some, IfOk, IsTrue};
+ghost use Rattle.std.specs.Prelude.{◌≡◌, ◌↔◌, Some, IfOk, IsTrue};
 ghost use Rattle.std.specs.Arc.{arc_value};
 ghost use Rattle.graph_rules.specs.Steps.{Claimed, Running, AllUnchanged, AreHeld};
 ghost use Rattle.job_table.specs.Tables.{state_of};
@@ -15,7 +15,7 @@ use crate::worker::Worker;
 use fingerprint::Sealed;
 use item_ids::Key;
 use job_table::TableFault;
-use recorder::{AnswerList, Outcome, Runner};
+use recorder::{Outcome, Runner};
 use sessions::Session;
 use std::alloc::{AllocError, Global};
 use std::sync::Arc;
@@ -112,18 +112,6 @@ fn is_of_edges(fault: &TableFault) -> bool
     match fault {
         TableFault::EdgeOpen(_) | TableFault::EdgeChanged(_) => true,
         _ => false,
-    }
-}
-
-/// Holds one result more, which is of the key's kind.
-pub(crate) fn hold(held: &mut AnswerList, key: Key, sealed: Arc<Sealed>) -> Result<(), AllocError>
-    ensures { IfOk result (λ _. held.new
-        ≡ held.old ++ record { key = key; value = arc_value sealed } ∷ []) }
-{
-    if sealed.value().kind() == key.kind() {
-        held.add(key, sealed)
-    } else {
-        Err(AllocError)
     }
 }
 

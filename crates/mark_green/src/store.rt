@@ -22,6 +22,7 @@ pub trait Store {
     /// The outcome of a run.
     type Out;
 
+    ghost use Rattle.result_bytes.specs.Values.{IsOfKind};
     ghost use Rattle.recorder.specs.Runs.{OutcomeValue};
     ghost use Rattle.job_table.specs.Tables.{TableValue};
 
@@ -79,4 +80,7 @@ pub trait Store {
     /// The previous session.
     fn past(&self) -> Result<Option<Arc<Session>>, AllocError>
         ensures { IfOk result (λ past. Knows (λ t. session_in past ≡ t.past) (table self.now)) };
+
+    /// A result that it gave for a key is of the key's kind.
+    ghost of_kind: { (s : Self) (q : Key) (v : Value) → told s q v → IsOfKind q v };
 }

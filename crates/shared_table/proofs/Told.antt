@@ -10,7 +10,7 @@ use mathlib.Core.List.{IsPrefix}
 use Rattle.item_ids.specs.declared.key.Key.{Key}
 use Rattle.result_bytes.specs.declared.value.Value.{Value}
 use Rattle.sessions.specs.declared.mark.Mark.TheVariants as mark
-use Rattle.recorder.specs.Backed.{ReadValue, keys}
+use Rattle.recorder.specs.Backed.{Queries, ReadValue, keys}
 use Rattle.recorder.specs.Runs.{OutcomeValue}
 use Rattle.graph_rules.specs.Steps.{Claim, MarkGreen, Begin, Finish, Fail, Event, State, Status, Done, IsDoneWith, AreHeld}
 use Rattle.job_table.specs.Tables.{TableValue, state_of, IsStep, adds}
@@ -23,7 +23,7 @@ use Rattle.mark_green.specs.Leaves.{ClaimsNoInput, StaysTold, TellsDone, AreTold
 use Rattle.mark_green.proofs.GoingOn.{on_one, held_on, Changes, changes_by}
 use Rattle.known_list.proofs.Beginnings.{prefix_contains}
 use Rattle.shared_table.specs.Told.{is_told, IsFound}
-use Rattle.shared_table.specs.Given.{IsOwnAnswer}
+use Rattle.shared_table.specs.Given.{IsOfSession, IsDoneInSession, AreDoneInSession, IsKnown, IsOwnAnswer}
 
 -- ---- what was given still stands after each call
 
@@ -75,14 +75,27 @@ held_one s (r ∷ rs) q v all d = (all.0, held_one s rs q v all.1 d)
 
 -- ---- what a worker knows
 
+-- what stands in a table of the session is done in it
+pub all_done : (queries : Queries) (opened t : TableValue) → IsOfSession queries opened t → (told : List ReadValue) → AreHeld (state_of t) told → AreDoneInSession queries opened told
+all_done queries opened t of [] held = tt
+all_done queries opened t of (r ∷ rs) held = (record { table = t; of_session = of; done = held.0 }, all_done queries opened t of rs held.1)
+
+-- a result that is told is done in the session, if all of them are
+pub known_in : (queries : Queries) (opened : TableValue) (told : List ReadValue) (q : Key) (v : Value) → AreDoneInSession queries opened told → is_told told q v → IsKnown queries opened told q v
+known_in queries opened told q v all there = (
+  there,
+  All-contains (λ (x : ReadValue). IsDoneInSession queries opened x.key x.value) told (record { key = q; value = v })
+      (All-from_recursion (λ (x : ReadValue). IsDoneInSession queries opened x.key x.value) told all) there,
+)
+
 -- a worker's reads, all of which it was given, still stand
-pub reads_held : (s : State) (known told reads : List ReadValue) → AreTold (is_told known) reads → IsPrefix known told → AreHeld s told → AreHeld s reads
-reads_held s known told [] all pre held = tt
-reads_held s known told (r ∷ rs) all pre held = (
+pub reads_held : (queries : Queries) (opened : TableValue) (s : State) (known told reads : List ReadValue) → AreTold (IsKnown queries opened known) reads → IsPrefix known told → AreHeld s told → AreHeld s reads
+reads_held queries opened s known told [] all pre held = tt
+reads_held queries opened s known told (r ∷ rs) all pre held = (
   All-contains (λ (x : ReadValue). IsDoneWith x.value (s.at x.key)) told (record { key = r.key; value = r.value })
       (All-from_recursion (λ (x : ReadValue). IsDoneWith x.value (s.at x.key)) told held)
-      (prefix_contains known told (record { key = r.key; value = r.value }) pre all.0),
-  reads_held s known told rs all.1 pre held,
+      (prefix_contains known told (record { key = r.key; value = r.value }) pre all.0.0),
+  reads_held queries opened s known told rs all.1 pre held,
 )
 
 -- results that are kept are among those that a longer list has
@@ -95,28 +108,29 @@ kept_one known [] r all h = (h, tt)
 kept_one known (x ∷ xs) r all h = (all.0, kept_one known xs r all.1 h)
 
 -- what a shorter list has given, a longer one has given, too
-pub told_on : (old mid new : List ReadValue) → IsPrefix old mid → new ≡ mid → StaysTold (is_told old) (is_told new)
-told_on old mid new pre same q v told = subst (λ (l : List ReadValue). is_told l q v) (sym same) (prefix_contains old mid (record { key = q; value = v }) pre told)
+pub told_on : (queries : Queries) (opened : TableValue) (old mid new : List ReadValue) → IsPrefix old mid → new ≡ mid → StaysTold (IsKnown queries opened old) (IsKnown queries opened new)
+told_on queries opened old mid new pre same q v told =
+    subst (λ (l : List ReadValue). IsKnown queries opened l q v) (sym same) (prefix_contains old mid (record { key = q; value = v }) pre told.0, told.1)
 
 -- ---- the answer for a key whose result is kept
 
-module _ (v : Value) where
-  pub again_told : (list : List ReadValue) (q : Key) (r : Result Asked TableFault) → IfOk r (λ a. IsFound a v) → is_told list q v → TellsDone (is_told list) q r
-  again_told list q (Ok (asked.Done a)) found told = subst (λ (x : Value). is_told list q x) (sym found) told
-  again_told list q (Ok asked.Yours) found told = tt
-  again_told list q (Ok asked.Busy) found told = tt
-  again_told list q (Ok asked.Stopped) found told = tt
-  again_told list q (Err why) found told = tt
+module _ (v : Value) (q : Key) where
+  pub again_told : (told : Key → Value → Type 0) (r : Result Asked TableFault) → IfOk r (λ a. IsFound a v) → told q v → TellsDone told q r
+  again_told told (Ok (asked.Done a)) found there = subst (λ (x : Value). told q x) (sym found) there
+  again_told told (Ok asked.Yours) found there = tt
+  again_told told (Ok asked.Busy) found there = tt
+  again_told told (Ok asked.Stopped) found there = tt
+  again_told told (Err why) found there = tt
 
-  pub again_claims : (q : Key) (r : Result Asked TableFault) → IfOk r (λ a. IsFound a v) → ClaimsNoInput q r
-  again_claims q r found = λ yours. absurd (subst (λ (x : Result Asked TableFault). IfOk x (λ a. IsFound a v)) yours found)
+  pub again_claims : (r : Result Asked TableFault) → IfOk r (λ a. IsFound a v) → ClaimsNoInput q r
+  again_claims r found = λ yours. absurd (subst (λ (x : Result Asked TableFault). IfOk x (λ a. IsFound a v)) yours found)
 
-  pub own_again : (r : Result Asked TableFault) → IfOk r (λ a. IsFound a v) → IfErr r (λ why. why ≡ fault.OutOfMemory) → IsOwnAnswer r
-  own_again (Ok (asked.Done a)) found out = tt
-  own_again (Ok asked.Yours) found out = found
-  own_again (Ok asked.Busy) found out = found
-  own_again (Ok asked.Stopped) found out = found
-  own_again (Err why) found out = subst (λ (x : TableFault). IsOwnAnswer (Err x)) (sym out) tt
+  pub own_again : (queries : Queries) (opened : TableValue) (r : Result Asked TableFault) → IsDoneInSession queries opened q v → IfOk r (λ a. IsFound a v) → IfErr r (λ why. why ≡ fault.OutOfMemory) → IsOwnAnswer queries opened q r
+  own_again queries opened (Ok (asked.Done a)) done found out = subst (IsDoneInSession queries opened q) (sym found) done
+  own_again queries opened (Ok asked.Yours) done found out = found
+  own_again queries opened (Ok asked.Busy) done found out = found
+  own_again queries opened (Ok asked.Stopped) done found out = found
+  own_again queries opened (Err why) done found out = subst (λ (x : TableFault). IsOwnAnswer queries opened q (Err x)) (sym out) tt
 
 -- ---- an answer that is kept, if memory allows it
 
@@ -125,6 +139,6 @@ module _ (q : Key) (a r : Result Asked TableFault) where
   kept_claims (inl same) claims = subst (λ (x : Result Asked TableFault). ClaimsNoInput q x) (sym same) claims
   kept_claims (inr out) claims = λ yours. absurd (cc (yours, out))
 
-  pub kept_given : (G : Result Asked TableFault → Type 0) → (r ≡ a) ⊎ (r ≡ Err fault.OutOfMemory) → G a → IsOwnAnswer r ⊎ G r
-  kept_given G (inl same) given = inr (subst G (sym same) given)
-  kept_given G (inr out) given = inl (subst (λ (x : Result Asked TableFault). IsOwnAnswer x) (sym out) tt)
+  pub kept_given : (queries : Queries) (opened : TableValue) (G : Result Asked TableFault → Type 0) → (r ≡ a) ⊎ (r ≡ Err fault.OutOfMemory) → G a → IsOwnAnswer queries opened q r ⊎ G r
+  kept_given queries opened G (inl same) given = inr (subst G (sym same) given)
+  kept_given queries opened G (inr out) given = inl (subst (λ (x : Result Asked TableFault). IsOwnAnswer queries opened q x) (sym out) tt)

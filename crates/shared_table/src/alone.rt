@@ -39,12 +39,13 @@ impl<'a, J: Naming, R: Runner, G: Gate> Alone<'a, J, R, G> {
 
 impl<J: Naming, R: Runner, G: Gate> Store for Alone<'_, J, R, G> {
     ghost use Rattle.std.specs.Prelude.{Some};
+    ghost use Rattle.result_bytes.specs.Values.{IsOfKind};
 
     type Out = Arc<Outcome<R>>;
 
     ghost table = { λ s. Some s.counted.now };
 
-    ghost told = { λ s q v. Unit {0} };
+    ghost told = { λ s q v. IsOfKind q v };
 
     ghost outcome_in = { λ o. arc_value o };
 
@@ -65,6 +66,8 @@ impl<J: Naming, R: Runner, G: Gate> Store for Alone<'_, J, R, G> {
     }
 
     fn finish(&mut self, w: u32, outcome: Arc<Outcome<R>>) -> Result<(), TableFault> {
+        // An outcome keeps in its type that its result is of its key's kind.
+        let _sealed = outcome.sealed();
         let answer = self.counted.finish_held(self.tally, w, outcome);
         if let (Ok(()), Some(Event::Finish(_, ended))) = (&answer, self.counted.last()) {
             self.gate.after_run(w, ended.key());
@@ -83,4 +86,6 @@ impl<J: Naming, R: Runner, G: Gate> Store for Alone<'_, J, R, G> {
     fn past(&self) -> Result<Option<Arc<Session>>, AllocError> {
         self.counted.past()
     }
+
+    ghost of_kind = { λ s q v told. told };
 }

@@ -2,12 +2,13 @@
 ghost use Rattle.std.specs.Prelude.{◌≡◌, ◌-◌, [], IfOk, length, option_map, slice_get};
 ghost use Rattle.std.specs.Option.{option_copied};
 ghost use Rattle.std.specs.Arc.{arc_value};
+ghost use Rattle.result_bytes.specs.Values.{IsOfKind};
 ghost use Rattle.graph_rules.specs.Steps.{AreHeld};
 ghost use Rattle.sessions.specs.Sessions.{session_in};
 ghost use Rattle.job_table.specs.Tables.{state_of, with_history};
 ghost use Rattle.job_table.specs.Kept.{event_of};
 ghost use Rattle.job_table.specs.Calls.{AskGives, MarkGives, BeginGives, FinishGives, FailGives};
-ghost use Rattle.mark_green.specs.Leaves.{ClaimsNoInput};
+ghost use Rattle.mark_green.specs.Leaves.{ClaimsNoInput, TellsDone};
 ghost use Rattle.shared_table.specs.Given.{IsOfSession};
 
 use crate::naming::Naming;
@@ -15,7 +16,7 @@ use crate::tally::Tally;
 use fingerprint::Sealed;
 use item_ids::Key;
 use job_table::{Asked, Event, Table, TableFault};
-use mark_green::ask_table;
+use mark_green::{ask_table, mark_table};
 use recorder::{Outcome, Runner};
 use sessions::{Session, Terms};
 use std::alloc::{AllocError, Global};
@@ -78,6 +79,7 @@ impl<J: Naming, R: Runner> Counted<J, R> {
     ) -> Result<Asked, TableFault>
         ensures gives { AskGives self.old w key.now result self.new }
         ensures claims { ClaimsNoInput key.now result }
+        ensures kind { TellsDone IsOfKind key.now result }
     {
         let Counted { table, book } = self;
         let answer = ask_table(table, w, key);
@@ -93,10 +95,11 @@ impl<J: Naming, R: Runner> Counted<J, R> {
         w: u32,
         key: &Key,
     ) -> Result<Arc<Sealed>, TableFault>
-        ensures { MarkGives self.old w key.now result self.new }
+        ensures gives { MarkGives self.old w key.now result self.new }
+        ensures kind { IfOk result (λ a. IsOfKind key.now (arc_value a)) }
     {
         let Counted { table, book } = self;
-        let answer = table.mark(w, key);
+        let answer = mark_table(table, w, key);
         if let Ok(_) = &answer {
             tally.count(table, book);
         }

@@ -1,13 +1,12 @@
 //! What lies under the lock.
-ghost use Rattle.std.specs.Prelude.{◌≡◌, [], Contains, IfOk, MatchBool};
+ghost use Rattle.std.specs.Prelude.{◌≡◌, [], IfOk, MatchBool};
 ghost use Rattle.std.specs.Arc.{arc_value};
 ghost use mathlib.Core.List.{IsPrefix};
 ghost use Rattle.graph_rules.specs.Steps.{IsDoneWith};
 ghost use Rattle.job_table.specs.Tables.{state_of};
-ghost use Rattle.job_table.specs.Calls.{AskGives, BeginGives, FinishGives, FailGives};
+ghost use Rattle.job_table.specs.Calls.{AskGives, MarkGives, BeginGives, FinishGives, FailGives};
 ghost use Rattle.mark_green.specs.Leaves.{ClaimsNoInput, TellsDone, AreTold};
-ghost use Rattle.shared_table.specs.Told.{is_told, MarkTells, FinishTells};
-ghost use Rattle.shared_table.specs.Given.{IsOfSession};
+ghost use Rattle.shared_table.specs.Given.{IsKnown, IsOfSession};
 
 use crate::counted::Counted;
 use crate::memo::Memo;
@@ -20,7 +19,7 @@ use known_list::{Head, Known};
 use logbook::Plain;
 use recorder::{Outcome, Read, Runner};
 use std::marker::Model;
-use std::sync::Arc;
+use std::sync::{Arc, Wait};
 
 /// A key with its result, as a worker is given them.
 #[derive(Drop)]
@@ -108,44 +107,42 @@ impl<J: Naming, R: Runner> Locked<J, R> {
     }
 
     /// Asks for a key. A result that is there is given.
-    pub(crate) fn ask(
+    pub(crate) fn ask<T: Wait>(
         &mut self,
+        rt: &T,
         tally: &mut Tally<J>,
-        memo: &mut Memo<J>,
+        memo: &mut Memo<J, R>,
         w: u32,
         key: &Key,
     ) -> Result<Asked, TableFault>
         ensures gives { AskGives self.old w key.now result self.new }
         ensures claims { ClaimsNoInput key.now result }
-        ensures told { TellsDone (is_told memo.new) key.now result }
+        ensures told { TellsDone (IsKnown R.queries J.opened memo.new) key.now result }
         ensures stays { IsPrefix memo.old memo.new }
     {
         let answer = self.counted.ask(tally, w, key);
         if let Ok(Asked::Done(sealed)) = &answer {
-            if !self.tell(memo, key, sealed) {
-                return Err(TableFault::OutOfMemory);
-            }
+            self.tell(rt, memo, key, sealed);
         }
         answer
     }
 
     /// Takes over the previous session's result, which is given.
-    pub(crate) fn mark(
+    pub(crate) fn mark<T: Wait>(
         &mut self,
+        rt: &T,
         tally: &mut Tally<J>,
-        memo: &mut Memo<J>,
+        memo: &mut Memo<J, R>,
         w: u32,
         key: &Key,
     ) -> Result<Arc<Sealed>, TableFault>
-        ensures gives { MarkTells self.old w key.now result self.new }
-        ensures told { IfOk result (λ a. is_told memo.new key.now (arc_value a)) }
+        ensures gives { MarkGives self.old w key.now result self.new }
+        ensures told { IfOk result (λ a. IsKnown R.queries J.opened memo.new key.now (arc_value a)) }
         ensures stays { IsPrefix memo.old memo.new }
     {
         let answer = self.counted.mark(tally, w, key);
         if let Ok(sealed) = &answer {
-            if !self.tell(memo, key, sealed) {
-                return Err(TableFault::OutOfMemory);
-            }
+            self.tell(rt, memo, key, sealed);
         }
         answer
     }
@@ -163,25 +160,25 @@ impl<J: Naming, R: Runner> Locked<J, R> {
     }
 
     /// Ends a run by its outcome, whose result is given.
-    pub(crate) fn finish(
+    pub(crate) fn finish<T: Wait>(
         &mut self,
+        rt: &T,
         tally: &mut Tally<J>,
-        memo: &mut Memo<J>,
+        memo: &mut Memo<J, R>,
         w: u32,
         outcome: Arc<Outcome<R>>,
         ended: &Outcome<R>,
     ) -> Result<(), TableFault>
         requires same { ended.now ≡ arc_value outcome }
-        requires reads { AreTold (is_told memo.old) ended.now.told }
-        ensures gives { FinishTells self.old w ended.now result self.new }
-        ensures told { IfOk result (λ _. is_told memo.new ended.now.key ended.now.value) }
+        requires reads { AreTold (IsKnown R.queries J.opened memo.old) ended.now.told }
+        ensures gives { FinishGives self.old w ended.now result self.new }
+        ensures told { IfOk result (λ _. IsKnown R.queries J.opened memo.new ended.now.key
+            ended.now.value) }
         ensures stays { IsPrefix memo.old memo.new }
     {
         let answer = self.end(tally, memo, w, outcome);
         if let Ok(()) = &answer {
-            if !self.tell(memo, ended.key(), ended.sealed()) {
-                return Err(TableFault::OutOfMemory);
-            }
+            self.tell(rt, memo, ended.key(), ended.sealed());
         }
         answer
     }
@@ -191,11 +188,11 @@ impl<J: Naming, R: Runner> Locked<J, R> {
     fn end(
         &mut self,
         tally: &mut Tally<J>,
-        memo: &Memo<J>,
+        memo: &Memo<J, R>,
         w: u32,
         outcome: Arc<Outcome<R>>,
     ) -> Result<(), TableFault>
-        requires reads { AreTold (is_told memo.now) (arc_value outcome).told }
+        requires reads { AreTold (IsKnown R.queries J.opened memo.now) (arc_value outcome).told }
         ensures { FinishGives self.old w (arc_value outcome) result self.new }
     {
         if self.told.begins_with(memo.known()) {
@@ -212,12 +209,35 @@ impl<J: Naming, R: Runner> Locked<J, R> {
         self.counted.fail(tally, w)
     }
 
-    /// Gives a worker a key that is done with this result, and says whether it did. It always does: only the table adds to
-    /// the list, and so knows all of it.
-    fn tell(&mut self, memo: &mut Memo<J>, key: &Key, sealed: &Arc<Sealed>) -> bool
+    /// Gives a worker a key that is done with this result. Only the table adds to the list, and so knows all of it, so that
+    /// the first try succeeds; no clause of the list says so, and it is tried until it does.
+    fn tell<T: Wait>(
+        &mut self,
+        rt: &T,
+        memo: &mut Memo<J, R>,
+        key: &Key,
+        sealed: &Arc<Sealed>,
+    )
         requires { IsDoneWith (arc_value sealed.now) ((state_of self.old).at key.now) }
         ensures same { self.new ≡ self.old }
-        ensures told { MatchBool result (is_told memo.new key.now (arc_value sealed.now))
+        ensures told { IsKnown R.queries J.opened memo.new key.now (arc_value sealed.now) }
+        ensures stays { IsPrefix memo.old memo.new }
+    {
+        'tells: for _ in rt.forever() {
+            if self.try_tell(memo, key, sealed) {
+                return;
+            }
+        }
+        unreachable!()
+    }
+
+    /// Gives a worker a key that is done with this result, if the table knows all that the worker does, and the whole
+    /// list, and says whether it did.
+    fn try_tell(&mut self, memo: &mut Memo<J, R>, key: &Key, sealed: &Arc<Sealed>) -> bool
+        requires { IsDoneWith (arc_value sealed.now) ((state_of self.old).at key.now) }
+        ensures same { self.new ≡ self.old }
+        ensures told { MatchBool result
+            (IsKnown R.queries J.opened memo.new key.now (arc_value sealed.now))
             (memo.new ≡ memo.old) }
         ensures stays { IsPrefix memo.old memo.new }
     {
@@ -230,6 +250,8 @@ impl<J: Naming, R: Runner> Locked<J, R> {
         {
             return false;
         }
+        // What is given is done in this table, which is one of the session.
+        self.counted.laws();
         memo.learn(self.told.again());
         true
     }

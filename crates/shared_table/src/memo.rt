@@ -1,44 +1,47 @@
 //! The results that a worker knows.
-ghost use Rattle.std.specs.Prelude.{◌≡◌, Contains, IfSome};
+ghost use Rattle.std.specs.Prelude.{◌≡◌, [], IfSome};
 ghost use Rattle.std.specs.Arc.{arc_value};
 ghost use mathlib.Core.List.{IsPrefix};
-ghost use Rattle.result_bytes.specs.Values.{IsOfKind};
 ghost use Rattle.mark_green.specs.Leaves.{TellsDone};
-ghost use Rattle.shared_table.specs.Told.{is_told};
+ghost use Rattle.shared_table.specs.Given.{AreDoneInSession, IsKnown};
 
 use crate::naming::Naming;
 use fingerprint::Sealed;
 use item_ids::Key;
 use job_table::{Asked, TableFault};
 use known_list::Known;
-use recorder::{AnswerList, Read};
+use recorder::{AnswerList, Read, Runner};
 use std::alloc::{AllocError, Global};
-use std::marker::Model;
+use std::marker::{Model, PhantomData};
 use std::sync::Arc;
 
 /// The results that a worker was given, so that it asks the table once for each. Contracts see it as the beginning that
-/// the worker knows of the list of all results that the table gave. What is done stays done.
-pub(crate) struct Memo<J: Naming> {
+/// the worker knows of the list of all results that the table gave. With each of them its key was done in a table of the
+/// session, and what is done stays done.
+pub(crate) struct Memo<J: Naming, R: Runner> {
     alloc: Global,
     known: Known<J, Read>,
     results: AnswerList,
+    of: PhantomData<R>,
 }
 
-impl<J: Naming> Drop for Memo<J> {
+impl<J: Naming, R: Runner> Drop for Memo<J, R> {
     fn drop(self) {
         let Memo {
             alloc: _,
             known: _,
             results: _,
+            of: _,
         } = self;
     }
 }
 
-impl<J: Naming> Model for Memo<J> {
+impl<J: Naming, R: Runner> Model for Memo<J, R> {
     ghost use Rattle.std.specs.Prelude.{List, Contains};
     ghost use Rattle.std.specs.List.{AllByRecursion};
     ghost use Rattle.recorder.specs.Backed.{ReadValue};
     ghost use Rattle.recorder.specs.Codes.{coded_reads};
+    ghost use Rattle.shared_table.specs.Given.{AreDoneInSession};
 
     ghost Value = { List ReadValue };
 
@@ -46,18 +49,21 @@ impl<J: Naming> Model for Memo<J> {
 
     ghost view = { λ k. k.known };
 
-    ghost invariant = { λ k. AllByRecursion (λ r. Contains k.known r) k.results };
+    ghost invariant = { λ k. AllByRecursion (λ r. Contains k.known r) k.results
+        × AreDoneInSession R.queries J.opened k.known };
 }
 
-impl<J: Naming> Memo<J> {
-    /// What is known at first, and no results.
+impl<J: Naming, R: Runner> Memo<J, R> {
+    /// What is known at first, which is nothing, and no results.
     pub(crate) fn new(alloc: Global, known: Known<J, Read>) -> Self
+        requires { known ≡ [] }
         ensures { result ≡ known }
     {
         Memo {
             alloc,
             known,
             results: AnswerList::new(alloc),
+            of: PhantomData,
         }
     }
 
@@ -70,7 +76,8 @@ impl<J: Naming> Memo<J> {
 
     /// Knows a longer beginning from now on.
     pub(crate) fn learn(&mut self, longer: Known<J, Read>)
-        requires { IsPrefix self.old longer }
+        requires begins { IsPrefix self.old longer }
+        requires done { AreDoneInSession R.queries J.opened longer }
         ensures { self.new ≡ longer }
     {
         self.known = longer;
@@ -78,8 +85,8 @@ impl<J: Naming> Memo<J> {
 
     /// The result of a key, if the worker knows it.
     pub(crate) fn get(&self, key: &Key) -> Option<&Arc<Sealed>>
-        ensures { IfSome result (λ a. Contains self.now
-            (record { key = key.now; value = arc_value a.now })) }
+        ensures { IfSome result (λ a. IsKnown R.queries J.opened self.now key.now
+            (arc_value a.now)) }
     {
         match self.results.find(key) {
             Some(read) => Some(read.answer()),
@@ -89,7 +96,7 @@ impl<J: Naming> Memo<J> {
 
     /// Keeps the result of a key that was found done, which was given, and says whether there was memory for it.
     pub(crate) fn keeps(&mut self, key: &Key, answer: &Result<Asked, TableFault>) -> bool
-        requires { TellsDone (is_told self.old) key.now answer.now }
+        requires { TellsDone (IsKnown R.queries J.opened self.old) key.now answer.now }
         ensures { self.new ≡ self.old }
     {
         match answer {
@@ -99,22 +106,11 @@ impl<J: Naming> Memo<J> {
     }
 
     /// Keeps the result of a key, which was given.
-    pub(crate) fn add(&mut self, key: &Key, sealed: &Arc<Sealed>) -> Result<(), AllocError>
-        requires { Contains self.old (record { key = key.now; value = arc_value sealed.now }) }
+    fn add(&mut self, key: &Key, sealed: &Arc<Sealed>) -> Result<(), AllocError>
+        requires { IsKnown R.queries J.opened self.old key.now (arc_value sealed.now) }
         ensures { self.new ≡ self.old }
     {
-        if sealed.value().kind() != key.kind() {
-            return Ok(());
-        }
-        self.hold(key, Arc::try_clone(sealed)?)
-    }
-
-    /// Keeps a result of the key's kind, which was given.
-    fn hold(&mut self, key: &Key, shared: Arc<Sealed>) -> Result<(), AllocError>
-        requires kind { IsOfKind key.now (arc_value shared) }
-        requires told { Contains self.old (record { key = key.now; value = arc_value shared }) }
-        ensures { self.new ≡ self.old }
-    {
-        self.results.add(key.copy(self.alloc)?, shared)
+        let key = key.copy(self.alloc)?;
+        self.results.add(key, Arc::try_clone(sealed)?)
     }
 }

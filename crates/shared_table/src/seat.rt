@@ -7,8 +7,8 @@ ghost use Rattle.graph_rules.specs.Steps.{AreHeld};
 ghost use Rattle.job_table.specs.Tables.{state_of};
 ghost use Rattle.job_table.specs.Calls.{AskGives, MarkGives, BeginGives, FinishGives, FailGives};
 ghost use Rattle.mark_green.specs.Leaves.{Knows, KnowsChange, ClaimsNoInput, StaysTold, TellsDone, AreTold};
-ghost use Rattle.shared_table.specs.Told.{IsFound, is_told, MarkTells, FinishTells};
-ghost use Rattle.shared_table.specs.Given.{IsGiven, IsOwnAnswer};
+ghost use Rattle.shared_table.specs.Told.{IsFound};
+ghost use Rattle.shared_table.specs.Given.{IsGiven, IsKnown, IsOwnAnswer};
 
 use crate::gate::Gate;
 use crate::memo::Memo;
@@ -34,7 +34,7 @@ pub struct Seat<'a, J: Naming, R: Runner, T: Wait, G: Gate> {
     shared: &'a Shared<J, R>,
     gate: &'a G,
     tally: &'a mut Tally<J>,
-    memo: Memo<J>,
+    memo: Memo<J, R>,
 }
 
 impl<'a, J: Naming, R: Runner, T: Wait, G: Gate> Seat<'a, J, R, T, G> {
@@ -43,7 +43,7 @@ impl<'a, J: Naming, R: Runner, T: Wait, G: Gate> Seat<'a, J, R, T, G> {
         shared: &'a Shared<J, R>,
         gate: &'a G,
         tally: &'a mut Tally<J>,
-        memo: Memo<J>,
+        memo: Memo<J, R>,
     ) -> Self {
         Seat {
             rt,
@@ -57,21 +57,24 @@ impl<'a, J: Naming, R: Runner, T: Wait, G: Gate> Seat<'a, J, R, T, G> {
 
 impl<J: Naming, R: Runner, T: Wait, G: Gate> Store for Seat<'_, J, R, T, G> {
     ghost use Rattle.std.specs.Prelude.{None};
+    ghost use Rattle.mark_green.proofs.KindRules.{done_kind};
+    ghost use Rattle.job_table.specs.Tables.{state_of};
+    ghost use Rattle.shared_table.specs.Given.{IsKnown};
 
     type Out = Arc<Outcome<R>>;
 
     ghost table = { λ s. None };
 
-    ghost told = { λ s q v. is_told s.memo q v };
+    ghost told = { λ s q v. IsKnown R.queries J.opened s.memo q v };
 
     ghost outcome_in = { λ o. arc_value o };
 
     fn ask(&mut self, w: u32, key: &Key) -> Result<Asked, TableFault>
         ensures gives { KnowsChange (λ t u. AskGives t w key.now result u) None None }
         ensures claims { ClaimsNoInput key.now result }
-        ensures told { TellsDone (is_told self.new.memo) key.now result }
-        ensures stays { StaysTold (is_told self.old.memo) (is_told self.new.memo) }
-        ensures given { IsOwnAnswer result
+        ensures told { TellsDone (IsKnown R.queries J.opened self.new.memo) key.now result }
+        ensures stays { StaysTold (IsKnown R.queries J.opened self.old.memo) (IsKnown R.queries J.opened self.new.memo) }
+        ensures given { IsOwnAnswer R.queries J.opened key.now result
             ⊎ IsGiven R.queries J.opened (λ t u. AskGives t w key.now result u) }
     {
         if let Some(sealed) = self.memo.get(key) {
@@ -80,7 +83,7 @@ impl<J: Naming, R: Runner, T: Wait, G: Gate> Store for Seat<'_, J, R, T, G> {
         'asks: for _ in self.rt.forever() {
             let mut locked = self.shared.locked.lock(self.rt);
             locked.laws();
-            let answer = locked.ask(self.tally, &mut self.memo, w, key);
+            let answer = locked.ask(self.rt, self.tally, &mut self.memo, w, key);
             if is_busy(&answer) {
                 drop(self.shared.changed.wait(self.rt, locked));
             } else {
@@ -93,20 +96,20 @@ impl<J: Naming, R: Runner, T: Wait, G: Gate> Store for Seat<'_, J, R, T, G> {
 
     fn mark(&mut self, w: u32, key: &Key) -> Result<Arc<Sealed>, TableFault>
         ensures gives { KnowsChange (λ t u. MarkGives t w key.now result u) None None }
-        ensures told { IfOk result (λ a. is_told self.new.memo key.now (arc_value a)) }
-        ensures stays { StaysTold (is_told self.old.memo) (is_told self.new.memo) }
-        ensures given { IsGiven R.queries J.opened (λ t u. MarkTells t w key.now result u) }
+        ensures told { IfOk result (λ a. IsKnown R.queries J.opened self.new.memo key.now (arc_value a)) }
+        ensures stays { StaysTold (IsKnown R.queries J.opened self.old.memo) (IsKnown R.queries J.opened self.new.memo) }
+        ensures given { IsGiven R.queries J.opened (λ t u. MarkGives t w key.now result u) }
     {
         let mut locked = self.shared.locked.lock(self.rt);
         locked.laws();
-        let answer = locked.mark(self.tally, &mut self.memo, w, key);
+        let answer = locked.mark(self.rt, self.tally, &mut self.memo, w, key);
         self.shared.wake(locked);
         answer
     }
 
     fn begin_run(&mut self, w: u32, key: &Key) -> Result<(), TableFault>
         ensures gives { KnowsChange (λ t u. BeginGives t w key.now result u) None None }
-        ensures stays { StaysTold (is_told self.old.memo) (is_told self.new.memo) }
+        ensures stays { StaysTold (IsKnown R.queries J.opened self.old.memo) (IsKnown R.queries J.opened self.new.memo) }
         ensures given { IsGiven R.queries J.opened (λ t u. BeginGives t w key.now result u) }
     {
         let mut locked = self.shared.locked.lock(self.rt);
@@ -121,20 +124,20 @@ impl<J: Naming, R: Runner, T: Wait, G: Gate> Store for Seat<'_, J, R, T, G> {
 
     fn finish(&mut self, w: u32, outcome: Arc<Outcome<R>>) -> Result<(), TableFault>
         requires held { Knows (λ t. AreHeld (state_of t) (arc_value outcome).told) None }
-        requires told { AreTold (is_told self.old.memo) (arc_value outcome).told }
+        requires told { AreTold (IsKnown R.queries J.opened self.old.memo) (arc_value outcome).told }
         ensures gives { KnowsChange (λ t u. FinishGives t w (arc_value outcome) result u) None None }
-        ensures told { IfOk result (λ _. is_told self.new.memo (arc_value outcome).key
+        ensures told { IfOk result (λ _. IsKnown R.queries J.opened self.new.memo (arc_value outcome).key
             (arc_value outcome).value) }
-        ensures stays { StaysTold (is_told self.old.memo) (is_told self.new.memo) }
+        ensures stays { StaysTold (IsKnown R.queries J.opened self.old.memo) (IsKnown R.queries J.opened self.new.memo) }
         ensures given { (result ≡ Err fault.OutOfMemory)
-            ⊎ IsGiven R.queries J.opened (λ t u. FinishTells t w (arc_value outcome) result u) }
+            ⊎ IsGiven R.queries J.opened (λ t u. FinishGives t w (arc_value outcome) result u) }
     {
         let Ok(ended) = Arc::try_clone(&outcome) else {
             return Err(TableFault::OutOfMemory);
         };
         let mut locked = self.shared.locked.lock(self.rt);
         locked.laws();
-        let answer = locked.finish(self.tally, &mut self.memo, w, outcome, &ended);
+        let answer = locked.finish(self.rt, self.tally, &mut self.memo, w, outcome, &ended);
         self.shared.wake(locked);
         after_run(self.gate, w, &ended, &answer);
         answer
@@ -142,7 +145,7 @@ impl<J: Naming, R: Runner, T: Wait, G: Gate> Store for Seat<'_, J, R, T, G> {
 
     fn fail(&mut self, w: u32) -> Result<(), TableFault>
         ensures gives { KnowsChange (λ t u. FailGives t w result u) None None }
-        ensures stays { StaysTold (is_told self.old.memo) (is_told self.new.memo) }
+        ensures stays { StaysTold (IsKnown R.queries J.opened self.old.memo) (IsKnown R.queries J.opened self.new.memo) }
         ensures given { IsGiven R.queries J.opened (λ t u. FailGives t w result u) }
     {
         let mut locked = self.shared.locked.lock(self.rt);
@@ -165,13 +168,16 @@ impl<J: Naming, R: Runner, T: Wait, G: Gate> Store for Seat<'_, J, R, T, G> {
     {
         self.shared.past()
     }
+
+    ghost of_kind = { λ s q v told. done_kind (state_of told.1.table) q v
+        told.1.of_session.order told.1.done };
 }
 
 impl<J: Naming, R: Runner, T: Wait, G: Gate> Seat<'_, J, R, T, G> {
     /// Keeps the result of a key that was found done.
     fn keep(&mut self, key: &Key, answer: Result<Asked, TableFault>) -> Result<Asked, TableFault>
-        requires told { TellsDone (is_told self.old.memo) key.now answer }
-        ensures told { TellsDone (is_told self.new.memo) key.now result }
+        requires told { TellsDone (IsKnown R.queries J.opened self.old.memo) key.now answer }
+        ensures told { TellsDone (IsKnown R.queries J.opened self.new.memo) key.now result }
         ensures same { self.new.memo ≡ self.old.memo }
         ensures answer { (result ≡ answer) ⊎ (result ≡ Err fault.OutOfMemory) }
     {

@@ -1,5 +1,5 @@
 //! The table under a lock.
-ghost use Rattle.std.specs.Prelude.{◌≡◌, IfOk};
+ghost use Rattle.std.specs.Prelude.{◌≡◌, [], IfOk};
 ghost use Rattle.sessions.specs.Sessions.{session_in};
 
 use crate::counted::Counted;
@@ -27,6 +27,7 @@ pub struct Shared<J: Naming, R: Runner> {
     known: Known<J, Read>,
     ghost of_terms: { terms ≡ J.opened.terms },
     ghost of_past: { session_in past ≡ J.opened.past },
+    ghost of_known: { known ≡ [] },
 }
 
 impl<J: Naming, R: Runner> Drop for Shared<J, R> {

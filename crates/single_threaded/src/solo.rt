@@ -6,7 +6,7 @@ ghost use Rattle.mark_green.specs.Ensures.{EnsureGives};
 use fingerprint::Sealed;
 use item_ids::Key;
 use job_table::{Asked, Table, TableFault};
-use mark_green::{Fault, Store, ask_table, ensure};
+use mark_green::{Fault, Store, ask_table, ensure, mark_table};
 use recorder::{Outcome, Runner};
 use sessions::{Session, Terms};
 use std::alloc::{AllocError, Global};
@@ -56,11 +56,13 @@ impl<R: Runner> Solo<R> {
 }
 
 impl<R: Runner> Store for Solo<R> {
+    ghost use Rattle.result_bytes.specs.Values.{IsOfKind};
+
     type Out = Arc<Outcome<R>>;
 
     ghost table = { λ s. Some s.table };
 
-    ghost told = { λ s q v. Unit {0} };
+    ghost told = { λ s q v. IsOfKind q v };
 
     ghost outcome_in = { λ o. arc_value o };
 
@@ -69,7 +71,7 @@ impl<R: Runner> Store for Solo<R> {
     }
 
     fn mark(&mut self, w: u32, key: &Key) -> Result<Arc<Sealed>, TableFault> {
-        self.table.mark(w, key)
+        mark_table(&mut self.table, w, key)
     }
 
     fn begin_run(&mut self, w: u32, key: &Key) -> Result<(), TableFault> {
@@ -77,6 +79,8 @@ impl<R: Runner> Store for Solo<R> {
     }
 
     fn finish(&mut self, w: u32, outcome: Arc<Outcome<R>>) -> Result<(), TableFault> {
+        // An outcome keeps in its type that its result is of its key's kind.
+        let _sealed = outcome.sealed();
         self.table.finish_held(w, outcome)
     }
 
@@ -91,4 +95,6 @@ impl<R: Runner> Store for Solo<R> {
     fn past(&self) -> Result<Option<Arc<Session>>, AllocError> {
         self.table.past()
     }
+
+    ghost of_kind = { λ s q v told. told };
 }

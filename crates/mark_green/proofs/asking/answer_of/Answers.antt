@@ -1,11 +1,12 @@
 use Rattle.std.proofs.Common.{refl}
-use Rattle.mark_green.proofs.Asks.{asked_kept, asked_yours, asked_busy, asked_stopped, asked_refused}
+use Rattle.std.specs.Arc.{arc_value}
+use Rattle.mark_green.proofs.Asks.{asked_yours, asked_busy, asked_stopped, asked_refused}
 use Rattle.mark_green.proofs.asking.answer_of.Goals as goal
 
-pub returns-in-Ok-Done-clause-halts : goal.returns-in-Ok-Done-clause-halts
-returns-in-Ok-Done-clause-halts g c =
-    let a = rw (c.in-Ok-Done.is, c.in-Ok-Done.field-0-is) at c.ask.ensures.gives in
-    λ r lt. asked_kept c.args.w c.args.key.now _ _ c.in-Ok-Done.sealed c.of_kind.result c.of_kind.ensures.err a r
+pub returns-in-Ok-Done-clause-kind : goal.returns-in-Ok-Done-clause-kind
+returns-in-Ok-Done-clause-kind g c =
+    let told = rw (c.in-Ok-Done.is, c.in-Ok-Done.field-0-is) at c.ask.ensures.told in
+    g.met.S.Store.of_kind c.ask.new.self c.args.key.now (arc_value c.in-Ok-Done.sealed) told
 
 pub returns-in-Ok-Yours-clause-halts : goal.returns-in-Ok-Yours-clause-halts
 returns-in-Ok-Yours-clause-halts g c =

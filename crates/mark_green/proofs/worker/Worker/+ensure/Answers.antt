@@ -20,7 +20,7 @@ use Rattle.job_table.specs.Tables.{state_of}
 use Rattle.job_table.specs.Calls.{walk_in}
 use Rattle.mark_green.specs.Leaves.{KnowsChange, HasStatus}
 use Rattle.mark_green.specs.Ensures.{WorkGives}
-use Rattle.mark_green.proofs.Turning.{Works, Fetches, Turns, Ends, Begins, Starts, fetch_ok, fetch_lost, fetch_up, turn_stopped, turn_more, turn_up, holds_more, ends_ok, ends_up, ends_lost, run_ended, run_up, start_run, start_refused}
+use Rattle.mark_green.proofs.Turning.{Works, Fetches, Turns, Ends, Begins, Starts, fetch_ok, fetch_lost, fetch_up, turn_stopped, turn_more, turn_up, holds_more, ends_ok, ends_up, run_ended, run_up, start_run, start_refused}
 use Rattle.mark_green.proofs.Working.{Ensured, Edges, OverEdges, Asks, edge_ok, edge_up, far_more, far_changed, far_up, over_marked_at, over_run_at, over_up_at, over_once, over_once_up, over_later, over_runs, Tries, work_over_past, ensured_work, ensured_done, ensured_stopped, ensured_busy, ensured_refused}
 use Rattle.mark_green.proofs.worker.Worker.+ensure.Goals as goal
 
@@ -59,17 +59,17 @@ work-returns-in-Ok-clause-gives g t c =
     let w = c.args.self.now.id in
     work_over_past w c.args.key.now c.work_over.result (session_in c.in-Ok.past) (g.S.Store.table c.args.self.now.store.now) (g.S.Store.table c.work_over.new.self.store.now) c.in-Ok.ensures c.work_over.ensures.gives
 
-pub fetch-returns-in-Ok-hold-clause-gives : goal.fetch-returns-in-Ok-hold-clause-gives
-fetch-returns-in-Ok-hold-clause-gives g t c =
+pub fetch-returns-in-Ok-add-clause-gives : goal.fetch-returns-in-Ok-add-clause-gives
+fetch-returns-in-Ok-add-clause-gives g t c =
     let w = c.args.self.now.id in
     let h = subst (λ (r : Result (Arc Value Global) Fault). Works w c.args.lacked r (g.S.Store.table c.args.self.now.store.now) (g.S.Store.table c.work.new.self.store.now)) c.in-Ok.is c.work.ensures.gives in
-    fetch_ok w c.args.lacked c.args.held.now c.hold.new.held c.in-Ok.sealed c.in-Ok-hold.ensures tt _ _ h
+    fetch_ok w c.args.lacked c.args.held.now c.add.new.self c.in-Ok.sealed c.in-Ok-add.ensures.ok tt _ _ h
 
-pub fetch-returns-in-Err-hold-clause-gives : goal.fetch-returns-in-Err-hold-clause-gives
-fetch-returns-in-Err-hold-clause-gives g t c =
+pub fetch-returns-in-Err-add-clause-gives : goal.fetch-returns-in-Err-add-clause-gives
+fetch-returns-in-Err-add-clause-gives g t c =
     let w = c.args.self.now.id in
     let h = subst (λ (r : Result (Arc Value Global) Fault). Works w c.args.lacked r (g.S.Store.table c.args.self.now.store.now) (g.S.Store.table c.work.new.self.store.now)) c.in-Ok.is c.work.ensures.gives in
-    fetch_lost w c.args.lacked c.args.held.now c.hold.new.held c.in-Ok.sealed c.give_up.result c.give_up.ensures.fault _ _ _ h c.give_up.ensures.stops
+    fetch_lost w c.args.lacked c.args.held.now c.add.new.self c.in-Ok.sealed c.give_up.result c.give_up.ensures.fault _ _ _ h c.give_up.ensures.stops
 
 pub fetch-returns-in-Err-clause-gives : goal.fetch-returns-in-Err-clause-gives
 fetch-returns-in-Err-clause-gives g t c =
@@ -139,10 +139,10 @@ turn-returns-in-Ok-fetch-clause-told g t c =
     let told = rw c.in-Ok-fetch.is at c.fetch.ensures.told in
     λ all. told (told_on (g.S.Store.told c.args.self.now.store.now) (g.S.Store.told c.run_once.new.store) c.run_once.ensures.stays c.args.held.now all)
 
-pub fetch-returns-in-Ok-hold-clause-told : goal.fetch-returns-in-Ok-hold-clause-told
-fetch-returns-in-Ok-hold-clause-told g t c =
+pub fetch-returns-in-Ok-add-clause-told : goal.fetch-returns-in-Ok-add-clause-told
+fetch-returns-in-Ok-add-clause-told g t c =
     let told = rw c.in-Ok.is at c.work.ensures.told in
-    λ all. told_more (g.S.Store.told c.work.new.self.store.now) c.args.held.now c.hold.new.held c.args.lacked (arc_value c.in-Ok.sealed) c.in-Ok-hold.ensures
+    λ all. told_more (g.S.Store.told c.work.new.self.store.now) c.args.held.now c.add.new.self c.args.lacked (arc_value c.in-Ok.sealed) c.in-Ok-add.ensures.ok
     (told_on (g.S.Store.told c.args.self.now.store.now) (g.S.Store.told c.work.new.self.store.now) c.work.ensures.same.stays c.args.held.now all) told
 
 pub turn-returns-in-Err-fetch-clause-gives : goal.turn-returns-in-Err-fetch-clause-gives
@@ -180,10 +180,6 @@ turns-returns-in_err-outcome-clause-gives g t c =
     let h : Ends w c.args.key.now (Err c.in_err-outcome.field-0.0) (g.S.Store.table c.args.self.now.store.now) (g.S.Store.table c.turn.new.self.store.now) =
     ends_up w c.args.key.now c.again.held c.turn.new.held _ _ _ c.again.invariant.1 c.in_err-outcome.field-0.0 h in
     search rules
-
-pub turns-returns-clause-gives : goal.turns-returns-clause-gives
-turns-returns-clause-gives g t c =
-    ends_lost c.args.self.now.id c.args.key.now c.again.held c.again.held _ _ _ c.again.invariant.1 c.give_up.result c.give_up.ensures.fault c.give_up.ensures.stops
 
 pub turns-again-preserved : goal.turns-again-preserved
 turns-again-preserved g t c =

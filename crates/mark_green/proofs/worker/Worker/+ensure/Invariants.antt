@@ -1,4 +1,4 @@
-use Rattle.std.proofs.Common.{◌+◌, ◌*◌}
+use Rattle.std.proofs.Common.{◌+◌, ◌*◌, ◌-◌, ◌^◌, length}
 use Rattle.item_ids.specs.Inputs.{rank}
 use Rattle.sessions.specs.Sessions.{key_at}
 use Rattle.mark_green.specs.Leaves.{AreTold}
@@ -52,3 +52,6 @@ invariant-turns-again g l =
     × Holds l.fn.self.id l.key l.held (g.S.Store.table l.fn.self.store.now) (g.S.Store.table l.self.store.now)
     × Held l.held (g.S.Store.table l.self.store.now)
     × AreTold (g.S.Store.told l.self.store.now) l.held
+
+abbrev pub decreases-turns-again : goal.decreases-turns-again
+decreases-turns-again g l = 2 ^ 64 - length l.held
