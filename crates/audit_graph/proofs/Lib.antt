@@ -1,4 +1,5 @@
 pub mod Entries
+pub mod KeyPlaces
 pub mod Meant
 pub mod SourceRules
 pub mod PlanRules

@@ -1,4 +1,5 @@
 pub mod Firsts
+pub mod PastKeys
 pub mod Chains
 pub mod Sources
 pub mod Greens

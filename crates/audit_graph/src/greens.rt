@@ -15,7 +15,7 @@ use crate::places::{key_of, print_of};
 use fingerprint::Print;
 use item_ids::{Key, Kind, keys_in_order};
 use recorder::Runner;
-use sessions::{Finder, Mark, Record, Session};
+use sessions::{Mark, Record, Session};
 
 /// Why a green record doesn't stand in the previous session: the first of these reasons.
 #[derive(Clone, Copy)]
@@ -43,9 +43,8 @@ pub(crate) fn first_lack<R: Runner>(
         (λ x. IsFirstLack (setting_behind R.queries.by_profile (option_copied past.entry)
         session.now) session.now x.0 x.1) }
 {
-    let mut finder = Finder::new();
     for (n, item) in session.records().iter().enumerate() {
-        if let Some(why) = lack_if_green::<R>(past, &mut finder, session, item) {
+        if let Some(why) = lack_if_green::<R>(past, session, item) {
             return Some((n, why));
         }
     }
@@ -55,7 +54,6 @@ pub(crate) fn first_lack<R: Runner>(
 /// Why a record doesn't stand in the previous session, if it is green.
 fn lack_if_green<R: Runner>(
     past: Option<&Past<'_>>,
-    finder: &mut Finder,
     session: &Session,
     item: &Record,
 ) -> Option<Lack>
@@ -68,19 +66,14 @@ fn lack_if_green<R: Runner>(
         (entry_at session.now) (entry_of session.now.records item.now) why) }
 {
     match (item.mark(), past) {
-        (Mark::Green, Some(past)) => find_lack::<R>(past, finder, session, item),
+        (Mark::Green, Some(past)) => find_lack::<R>(past, session, item),
         (Mark::Green, None) => Some(Lack::WithoutPast),
         (Mark::Input | Mark::Executed, _) => None,
     }
 }
 
 /// Why a record doesn't stand in the previous session.
-fn find_lack<R: Runner>(
-    past: &Past<'_>,
-    finder: &mut Finder,
-    session: &Session,
-    item: &Record,
-) -> Option<Lack>
+fn find_lack<R: Runner>(past: &Past<'_>, session: &Session, item: &Record) -> Option<Lack>
     requires { AreInside session.now.records item.now.edges }
     ensures { MatchOption result
         (StandsIn (setting_behind R.queries.by_profile (Some past.now) session.now)
@@ -88,7 +81,7 @@ fn find_lack<R: Runner>(
         (IsLack (setting_behind R.queries.by_profile (Some past.now) session.now)
         (entry_at session.now) (entry_of session.now.records item.now)) }
 {
-    let Some(at) = past.find(finder, item.key()) else {
+    let Some(at) = past.find(item.key()) else {
         return Some(Lack::WithoutPast);
     };
     if crosses::<R>(past, session, item.key().kind()) {

@@ -1,24 +1,29 @@
 //! The previous session, as an audit sees it.
-ghost use Rattle.std.specs.Prelude.{◌≡◌, ◌<◌, None, Some, IfSome, MatchOption, HoldsAt, length};
+ghost use Rattle.std.specs.Prelude.{◌≡◌, ◌<◌, None, Some, IfOk, IfSome, MatchOption, HoldsAt, length};
 ghost use Rattle.std.specs.List.{AllByRecursion};
 ghost use Rattle.sessions.specs.Sessions.{IsSession, key_at, entry_at, entry_of};
 ghost use Rattle.sessions.specs.Spelling.{digest_of};
 ghost use Rattle.graph_rules.specs.Pasts.{print_in};
+ghost use Rattle.audit_graph.specs.PastKeys.{AreKeysOf};
 
 use crate::places::{key_of, print_of};
 use fingerprint::Print;
+use indexmap::IndexSet;
 use item_ids::Key;
 use profiles::Profile;
 use session_file::digest;
-use sessions::{Finder, Session};
+use sessions::Session;
+use std::alloc::{AllocError, Global};
 use std::marker::Model;
 
 /// What the audit of the next session asks of a session: its profile, its number, the SHA-256 of its file, and the key,
-/// edges and fingerprint of each record. The session is lent, so nothing of it is copied, and its results aren't shown.
+/// edges and fingerprint of each record, which is found by its key. The session is lent, so nothing of it is copied, and
+/// its results aren't shown.
 #[derive(Drop)]
 pub struct Past<'a> {
     session: &'a Session,
     digest: [u8; 32],
+    keys: IndexSet<&'a Key>,
 }
 
 impl<'a> Model for Past<'a> {
@@ -27,6 +32,7 @@ impl<'a> Model for Past<'a> {
     ghost use Rattle.result_bytes.specs.contracts.value.Value as value_contracts;
     ghost use Rattle.sessions.specs.Sessions.{SessionValue};
     ghost use Rattle.sessions.specs.Spelling.{digest_of};
+    ghost use Rattle.audit_graph.specs.PastKeys.{AreKeysOf};
 
     ghost Value = { SessionValue };
 
@@ -34,18 +40,21 @@ impl<'a> Model for Past<'a> {
 
     ghost view = { λ p. p.session.now };
 
-    ghost invariant = { λ p. p.digest ≡ digest_of p.session.now };
+    ghost invariant = { λ p. (p.digest ≡ digest_of p.session.now)
+        × AreKeysOf p.keys.keys p.session.now.records };
 }
 
 impl<'a> Past<'a> {
-    /// What the audit of the next session asks of this one.
-    pub fn of(session: &'a Session) -> Self
-        ensures { result ≡ session.now }
+    /// What the audit of the next session asks of this one. Memory is taken for the set of its keys, which are lent.
+    pub fn of(alloc: Global, session: &'a Session) -> Result<Self, AllocError>
+        ensures { IfOk result (λ past. past ≡ session.now) }
     {
-        Past {
+        let keys = keys_of(alloc, session)?;
+        Ok(Past {
             session,
             digest: digest(session),
-        }
+            keys,
+        })
     }
 
     /// The profile that it was made in.
@@ -95,7 +104,7 @@ impl<'a> Past<'a> {
     }
 
     /// The index of the record of a key.
-    pub fn find(&self, finder: &mut Finder, key: &Key) -> Option<usize>
+    pub fn find(&self, key: &Key) -> Option<usize>
         ensures within { IfSome result (λ i. i < length self.now.records) }
         ensures found { MatchOption result (entry_at self.now key.now ≡ None)
             (λ i. HoldsAt (λ r. entry_at self.now key.now ≡ Some (entry_of self.now.records r))
@@ -104,9 +113,18 @@ impl<'a> Past<'a> {
     {
         // A session keeps in its type what its records are.
         let _records = self.session.records();
-        match finder.find(self.session, key) {
-            Some((i, _)) => Some(i),
-            None => None,
-        }
+        self.keys.get_index_of(&key)
     }
+}
+
+/// The keys of a session's records, in their order.
+fn keys_of<'a>(alloc: Global, session: &'a Session) -> Result<IndexSet<&'a Key>, AllocError>
+    ensures { IfOk result (λ set. AreKeysOf set.keys session.now.records) }
+{
+    let records = session.records();
+    let mut keys = IndexSet::with_capacity(alloc, records.len())?;
+    for record in records {
+        keys.insert(record.key())?;
+    }
+    Ok(keys)
 }

@@ -84,7 +84,13 @@ module _ (queries : Queries) where
 -- a session that is refused makes its file refused
 pub session_refused : (queries : Queries) (past : Option SessionValue) (k : ℕ) (s : SessionValue) (file : List ℕ) (old new : List Key) → RunsWithin past file old new s
     → (fault : AuditFault) → SessionRefuses queries past k s fault → FileRefuses queries past k file old new fault
-session_refused queries past k s file old new w (File j f) r = elim r [ inl x ↦ absurd x | inr x ↦ absurd x.1 ]
+session_refused queries past k s file old new w (File j f) r = elim r [
+  | inl x ↦ absurd x
+  | inr x ↦ elim x [
+    | inl y ↦ absurd y.1
+    | inr memory ↦ absurd cc
+  ]
+]
 session_refused queries past k s file old new w OutOfMemory r = inr (s, w)
 session_refused queries past k s file old new w fault r = (s, w, r)
 

@@ -2,26 +2,30 @@
 use Rattle.std.proofs.Common.{◌≡◌, inl, inr, ℕ, ◌+◌, List, [], ◌∷◌, ◌++◌, map, length, Option, Some, None, Ok, Err, refl, sym, ap, ◌∙◌, subst, arith}
 use Rattle.std.specs.Prelude.{◌⊎◌, ◌≢◌}
 use Rattle.std.specs.List.{AllByRecursion}
-use Rattle.std.proofs.lemmas.Option.{none-some}
+use Rattle.std.proofs.lemmas.Option.{none-some, slice_get_within, get_or_from_slice_get}
 use Rattle.profiles.specs.declared.profile.Profile.{Profile}
 use Rattle.item_ids.specs.declared.key.Key.{Key}
 use Rattle.item_ids.specs.declared.key.Key.TheVariants.{Answer}
+use Rattle.item_ids.proofs.Lists.{all_push}
 use Rattle.result_bytes.specs.declared.value.Value.{Value}
 use Rattle.recorder.specs.Projects.{Project}
-use Rattle.recorder.specs.Backed.{Queries}
-use Rattle.sessions.specs.Sessions.{SessionValue, IsSession, IsTakenFrom}
+use Rattle.recorder.specs.Backed.{Queries, AreLawful}
+use Rattle.sessions.specs.Sessions.{SessionValue, IsSession, IsTakenFrom, entry_of, past_entry}
+use Rattle.sessions.proofs.EntryRules.{entry_of_place}
 use Rattle.sessions.specs.Spelling.{file_of}
 use Rattle.session_file.specs.Reading.{file_after}
 use Rattle.session_file.specs.declared.fault.FileFault.{FileFault}
 use Rattle.graph_rules.specs.Pasts.{Past}
-use Rattle.graph_rules.specs.Next.{AreSources}
+use Rattle.graph_rules.specs.Next.{AreSources, ArePastMeant}
+use Rattle.audit_graph.specs.Steps.{IsSessionStep}
 use Rattle.audit_graph.specs.declared.fault.AuditFault.{AuditFault}
 use Rattle.audit_graph.specs.declared.fault.AuditFault.TheVariants as faults
 use Rattle.audit_replay.specs.Passes.{FileRefuses, Passes}
-use Rattle.audit_replay.specs.Audits.{ArePassed, ArePassedFiles, AuditRefuses, AuditRefusesAgainst, IsAccepted, IsRefusedBehind, PassesWith, last_of, last_entry}
-use Rattle.audit_replay.specs.Refusals.{IsToldByFiles}
+use Rattle.audit_replay.specs.Audits.{AreApart, ArePassed, ArePassedFiles, AuditRefuses, AuditRefusesAgainst, IsAccepted, IsRefusedBehind, PassesWith, last_of, last_entry}
+use Rattle.audit_replay.specs.Refusals.{HasFirstWrong, IsToldByFiles}
 use Rattle.audit_replay.proofs.OnceSteps.{HasReason, reason_of_session, one_fault, no_fault}
-use Rattle.audit_replay.proofs.FileRules.{passed_taken}
+use Rattle.audit_replay.proofs.ChainRules.{all_right}
+use Rattle.audit_replay.proofs.FileRules.{last_more, passed_taken}
 use Rattle.audit_replay.proofs.SessionFiles.{file_again, one_session, same_sessions}
 use Rattle.audit_replay.proofs.SumEnds.{behind_against}
 
@@ -56,12 +60,12 @@ module _ (queries : Queries) where
     reason = reason_of_session queries past k r.0 fault t r.2;
   })
 
-  -- the file of a session that passes isn't refused
-  not_refused : (past : Option SessionValue) (k : ℕ) (s : SessionValue) → IsSession s → Passes queries past k s → (fault : AuditFault) → IsRefusedFile queries past k (file_of s) fault → ⊥
-  not_refused past k s session p fault (inl u) = absurd (let o : Ok s ≡ Err u.why = sym (file_again past s session p.taken) ∙ u.unread in cc)
-  not_refused past k s session p fault (inr h) =
-      let same = one_session past h.session s h.each session h.taken p.taken h.spelled in
-      no_fault queries past k s session p fault (subst (λ (x : SessionValue). HasReason queries past k x fault) same h.reason)
+  -- the file of a session whose step is right isn't refused
+  not_refused : (past : Option SessionValue) (k : ℕ) (s : SessionValue) → IsSession s → IsTakenFrom past s → IsSessionStep queries.by_profile past k s → (fault : AuditFault) → IsRefusedFile queries past k (file_of s) fault → ⊥
+  not_refused past k s session taken step fault (inl u) = absurd (let o : Ok s ≡ Err u.why = sym (file_again past s session taken) ∙ u.unread in cc)
+  not_refused past k s session taken step fault (inr h) =
+      let same = one_session past h.session s h.each session h.taken taken h.spelled in
+      no_fault queries past k s session step fault (subst (λ (x : SessionValue). HasReason queries past k x fault) same h.reason)
 
 one_of_file : (queries : Queries) (past : Option SessionValue) (k : ℕ) (file : List ℕ) (f g : AuditFault) → IsRefusedFile queries past k file f → IsRefusedFile queries past k file g → f ≡ g
 one_of_file queries past k file f g (inl a) (inl b) =
@@ -98,12 +102,12 @@ module _ (queries : Queries) where
     refused = subst (λ (x : SessionValue). IsRefusedFile queries (last_of (Some x) ss) a.place file fault) same a.refused;
   }
 
-  -- the first file isn't refused if its session passes
-  not_first : (past : Option SessionValue) (k : ℕ) (t : SessionValue) → IsSession t → Passes queries past k t → (file : List ℕ) (rest files : List (List ℕ)) (fault : AuditFault)
+  -- the first file isn't refused if its session's step is right
+  not_first : (past : Option SessionValue) (k : ℕ) (t : SessionValue) → IsSession t → IsTakenFrom past t → IsSessionStep queries.by_profile past k t → (file : List ℕ) (rest files : List (List ℕ)) (fault : AuditFault)
       → file ≡ file_of t → IsRefusedLater past k [] file rest files fault → ⊥
-  not_first past k t session p file rest files fault same a =
+  not_first past k t session taken step file rest files fault same a =
       let n : a.place ≡ k = omega (arith, a.is) in
-      not_refused queries past k t session p fault
+      not_refused queries past k t session taken step fault
       (subst (λ (m : ℕ). IsRefusedFile queries past m (file_of t) fault) n (subst (λ (x : List ℕ). IsRefusedFile queries past a.place x fault) same a.refused))
 
   one_from : (past : Option SessionValue) (k : ℕ) (files more : List (List ℕ)) (f g : AuditFault) (ss ts : List SessionValue) (fa fb : List ℕ) (ra rb : List (List ℕ)) → files ≡ more
@@ -117,11 +121,11 @@ module _ (queries : Queries) where
   one_from past k files more f g [] (t ∷ ts) fa fb ra rb e a b =
       let h : (fa ∷ ra) ≡ (file_of t ∷ (map file_of ts ++ fb ∷ rb)) = a.spelled ∙ (e ∙ sym b.spelled) in
       let file : fa ≡ file_of t = cc in
-      absurd (not_first past k t b.each.0 b.passed.0 fa ra files f file a)
+      absurd (not_first past k t b.each.0 b.passed.0.taken b.passed.0.step fa ra files f file a)
   one_from past k files more f g (s ∷ ss) [] fa fb ra rb e a b =
       let h : (file_of s ∷ (map file_of ss ++ fa ∷ ra)) ≡ (fb ∷ rb) = a.spelled ∙ (e ∙ sym b.spelled) in
       let file : fb ≡ file_of s = cc in
-      absurd (not_first past k s a.each.0 a.passed.0 fb rb more g file b)
+      absurd (not_first past k s a.each.0 a.passed.0.taken a.passed.0.step fb rb more g file b)
   one_from past k files more f g (s ∷ ss) (t ∷ ts) fa fb ra rb e a b =
       let h : (file_of s ∷ (map file_of ss ++ fa ∷ ra)) ≡ (file_of t ∷ (map file_of ts ++ fb ∷ rb)) = a.spelled ∙ (e ∙ sym b.spelled) in
       let first : file_of s ≡ file_of t = cc in
@@ -137,7 +141,7 @@ module _ (queries : Queries) where
   none_from past k files f [] (t ∷ ts) fa ra a e each passed =
       let h : (fa ∷ ra) ≡ (file_of t ∷ map file_of ts) = a.spelled ∙ sym e in
       let file : fa ≡ file_of t = cc in
-      not_first past k t each.0 passed.0 fa ra files f file a
+      not_first past k t each.0 passed.0.taken passed.0.step fa ra files f file a
   none_from past k files f (s ∷ ss) [] fa ra a e each passed = absurd (let h : (file_of s ∷ (map file_of ss ++ fa ∷ ra)) ≡ [] = a.spelled ∙ sym e in cc)
   none_from past k files f (s ∷ ss) (t ∷ ts) fa ra a e each passed =
       let h : (file_of s ∷ (map file_of ss ++ fa ∷ ra)) ≡ (file_of t ∷ map file_of ts) = a.spelled ∙ sym e in
@@ -145,6 +149,78 @@ module _ (queries : Queries) where
       let later : map file_of ss ++ fa ∷ ra ≡ map file_of ts = cc in
       let same : s ≡ t = one_session past s t a.each.0 each.0 a.passed.0.taken passed.0.taken first in
       none_from (Some t) (k + 1) (map file_of ss ++ fa ∷ ra) f ss ts fa ra (behind_first past k s t ss fa ra files f same a) (sym later) each.1 passed.1
+
+  -- ---- a session whose step is right, behind sessions that pass
+
+  record IsLater (past : Option SessionValue) (k : ℕ) (front : List SessionValue) (s : SessionValue) (rest files : List (List ℕ)) : Type 0 where
+    spelled : map file_of front ++ file_of s ∷ rest ≡ files
+    each : AllByRecursion IsSession front
+    is : IsSession s
+    passed : ArePassed queries past k front
+    taken : IsTakenFrom (last_of past front) s
+    place : ℕ
+    at : place ≡ k + length front
+    step : IsSessionStep queries.by_profile (last_of past front) place s
+
+  -- so too over the first of the sessions in front
+  later_first : (past : Option SessionValue) (k : ℕ) (t : SessionValue) (ts : List SessionValue) (s : SessionValue) (rest files : List (List ℕ)) → (a : IsLater past k (t ∷ ts) s rest files) → IsLater (Some t) (k + 1) ts s rest (map file_of ts ++ file_of s ∷ rest)
+  later_first past k t ts s rest files a = record {
+    spelled = refl;
+    each = a.each.1;
+    is = a.is;
+    passed = a.passed.1;
+    taken = a.taken;
+    place = a.place;
+    at = omega (arith, a.at);
+    step = a.step;
+  }
+
+  -- if all files pass it passes, too
+  passes_of_all : (past : Option SessionValue) (k : ℕ) (files more : List (List ℕ)) (ss ts : List SessionValue) (s : SessionValue) (rest : List (List ℕ)) → files ≡ more → map file_of ss ≡ files → AllByRecursion IsSession ss
+      → ArePassed queries past k ss → IsLater past k ts s rest more → ArePassed queries past k (ts ++ s ∷ [])
+  passes_of_all past k files more [] [] s rest e all each passed b = absurd (let h : [] ≡ (file_of s ∷ rest) = all ∙ (e ∙ sym b.spelled) in cc)
+  passes_of_all past k files more [] (t ∷ ts) s rest e all each passed b = absurd (let h : [] ≡ (file_of t ∷ (map file_of ts ++ file_of s ∷ rest)) = all ∙ (e ∙ sym b.spelled) in cc)
+  passes_of_all past k files more (x ∷ ss) [] s rest e all each passed b =
+      let h : (file_of x ∷ map file_of ss) ≡ (file_of s ∷ rest) = all ∙ (e ∙ sym b.spelled) in
+      let first : file_of x ≡ file_of s = cc in
+      let same : x ≡ s = one_session past x s each.0 b.is passed.0.taken b.taken first in
+      (subst (λ (y : SessionValue). Passes queries past k y) same passed.0, tt)
+  passes_of_all past k files more (x ∷ ss) (t ∷ ts) s rest e all each passed b =
+      let h : (file_of x ∷ map file_of ss) ≡ (file_of t ∷ (map file_of ts ++ file_of s ∷ rest)) = all ∙ (e ∙ sym b.spelled) in
+      let first : file_of x ≡ file_of t = cc in
+      let later : map file_of ss ≡ map file_of ts ++ file_of s ∷ rest = cc in
+      let same : x ≡ t = one_session past x t each.0 b.each.0 passed.0.taken b.passed.0.taken first in (
+        b.passed.0,
+        passes_of_all (Some t) (k + 1) (map file_of ss) (map file_of ts ++ file_of s ∷ rest) ss ts s rest later refl each.1
+            (subst (λ (y : SessionValue). ArePassed queries (Some y) (k + 1) ss) same passed.1) (later_first past k t ts s rest more b),
+      )
+
+  -- if a file is refused, for a reason that the files tell, it passes, since that file is behind it
+  passes_before : (past : Option SessionValue) (k : ℕ) (files more : List (List ℕ)) (f : AuditFault) (ss ts : List SessionValue) (fa : List ℕ) (ra : List (List ℕ)) (s : SessionValue) (rest : List (List ℕ)) → files ≡ more
+      → IsRefusedLater past k ss fa ra files f → IsLater past k ts s rest more → ArePassed queries past k (ts ++ s ∷ [])
+  passes_before past k files more f [] [] fa ra s rest e a b =
+      let h : (fa ∷ ra) ≡ (file_of s ∷ rest) = a.spelled ∙ (e ∙ sym b.spelled) in
+      let file : fa ≡ file_of s = cc in
+      let n : b.place ≡ k = omega (arith, b.at) in
+      absurd (not_first past k s b.is b.taken (subst (λ (m : ℕ). IsSessionStep queries.by_profile past m s) n b.step) fa ra files f file a)
+  passes_before past k files more f [] (t ∷ ts) fa ra s rest e a b =
+      let h : (fa ∷ ra) ≡ (file_of t ∷ (map file_of ts ++ file_of s ∷ rest)) = a.spelled ∙ (e ∙ sym b.spelled) in
+      let file : fa ≡ file_of t = cc in
+      absurd (not_first past k t b.each.0 b.passed.0.taken b.passed.0.step fa ra files f file a)
+  passes_before past k files more f (x ∷ ss) [] fa ra s rest e a b =
+      let h : (file_of x ∷ (map file_of ss ++ fa ∷ ra)) ≡ (file_of s ∷ rest) = a.spelled ∙ (e ∙ sym b.spelled) in
+      let first : file_of x ≡ file_of s = cc in
+      let same : x ≡ s = one_session past x s a.each.0 b.is a.passed.0.taken b.taken first in
+      (subst (λ (y : SessionValue). Passes queries past k y) same a.passed.0, tt)
+  passes_before past k files more f (x ∷ ss) (t ∷ ts) fa ra s rest e a b =
+      let h : (file_of x ∷ (map file_of ss ++ fa ∷ ra)) ≡ (file_of t ∷ (map file_of ts ++ file_of s ∷ rest)) = a.spelled ∙ (e ∙ sym b.spelled) in
+      let first : file_of x ≡ file_of t = cc in
+      let later : map file_of ss ++ fa ∷ ra ≡ map file_of ts ++ file_of s ∷ rest = cc in
+      let same : x ≡ t = one_session past x t a.each.0 b.each.0 a.passed.0.taken b.passed.0.taken first in (
+        b.passed.0,
+        passes_before (Some t) (k + 1) (map file_of ss ++ fa ∷ ra) (map file_of ts ++ file_of s ∷ rest) f ss ts fa ra s rest later
+            (behind_first past k x t ss fa ra files f same a) (later_first past k t ts s rest more b),
+      )
 
   module _ (files : List (List ℕ)) where
     refused_later : (old new : List Key) (f : AuditFault) → IsToldByFiles f → (r : IsRefusedBehind queries files old new f) → IsRefusedLater None 0 r.front r.file_bytes r.rest files f
@@ -237,6 +313,47 @@ module _ (queries : Queries) where
         → AuditRefuses queries files old new f → AuditRefuses queries files before after g → f ≡ g
     one_refusal old new before after f g tf tg a b =
         one_against [] old new before after f g tf tg (behind_against queries files old new [] f a) (behind_against queries files before after [] g b)
+
+    -- ---- beside a record that differs from its run
+
+    -- whatever refusal the files tell, the session with such a record passes
+    wrong_passes : (k n : ℕ) (w : HasFirstWrong queries files k n) (f : AuditFault) → Why [] f → ArePassed queries None 0 (w.front ++ w.session ∷ [])
+    wrong_passes k n w f why = by f why
+      where
+        later : IsLater None 0 w.front w.session w.rest files
+        later = record {
+          spelled = w.spelled;
+          each = w.each;
+          is = w.is;
+          passed = w.passed;
+          taken = w.taken;
+          place = k;
+          at = omega (arith, w.many);
+          step = w.step;
+        }
+
+        of_all : (ss : List SessionValue) → ArePassedTo ss → ArePassed queries None 0 (w.front ++ w.session ∷ [])
+        of_all ss x = passes_of_all None 0 files files ss w.front w.session w.rest refl x.passed.spelled x.passed.each x.passed.passed later
+
+        by : (g : AuditFault) → Why [] g → ArePassed queries None 0 (w.front ++ w.session ∷ [])
+        by g (none nothing is) = absurd (some_file (map file_of w.front) (file_of w.session) w.rest (w.spelled ∙ nothing))
+        by g (behind old new t r) = passes_before None 0 files files g r.front w.front r.file_bytes r.rest w.session w.rest refl (refused_later old new g t r) later
+        by g (unanswered ss x some nothing is) = of_all ss x
+        by g (differ ss x answered other is) = of_all ss x
+
+    pub told_leaves_none : AreLawful queries → (old new : List Key) (f : AuditFault) → IsToldByFiles f → AuditRefuses queries files old new f
+        → (k n : ℕ) (w : HasFirstWrong queries files k n) → AreApart (w.front ++ w.session ∷ []) → ⊥
+    told_leaves_none laws old new f t r k n w apart =
+        let passed = wrong_passes k n w f (why [] old new f t (behind_against queries files old new [] f r)) in
+        let each = all_push IsSession w.front w.session w.each w.is in
+        let wrong = (w.wrong apart).1 in
+        let last = last_more None w.front w.session in
+        let sources = subst (λ (o : Option SessionValue). AreSources (past_entry o) wrong.project) (sym last) wrong.sources in
+        let meant = subst (λ (o : Option SessionValue). ArePastMeant queries o wrong.project) last ((all_right queries laws (w.front ++ w.session ∷ []) apart each passed).1 wrong.project sources) in
+        let within = slice_get_within w.session.records n wrong.item wrong.here in
+        let m = meant wrong.item.key (entry_of w.session.records wrong.item)
+        (entry_of_place w.session w.is n wrong.item within (get_or_from_slice_get w.session.records n wrong.item wrong.item wrong.here)) in
+        wrong.wrong m.0 m.1
 
     -- ---- beside an accepted chain
 

@@ -140,7 +140,8 @@ module _ (queries : Queries) (past : Option SessionValue) (k : ℕ) (s : Session
 
   pub reason_of_session : (fault : AuditFault) → IsToldByFiles fault → SessionRefuses queries past k s fault → HasReason fault
   reason_of_session fault t (inl g) = reason_of fault t g
-  reason_of_session fault t (inr g) = absurd (not_plan fault t g.1)
+  reason_of_session fault t (inr (inl g)) = absurd (not_plan fault t g.1)
+  reason_of_session fault t (inr (inr memory)) = absurd (subst IsToldByFiles memory t)
 
   -- ---- one reason at most
 
@@ -213,5 +214,5 @@ module _ (queries : Queries) (past : Option SessionValue) (k : ℕ) (s : Session
         let has = told_of_entry s session first.item (contains_there (entries s) n first.item first.here) in
         first.lacks (step.greens first.item.key first.item has)
 
-    pub no_fault : Passes queries past k s → (fault : AuditFault) → HasReason fault → ⊥
-    no_fault p fault h = no_reason p.step h.reason h.holds
+    pub no_fault : IsSessionStep queries.by_profile past k s → (fault : AuditFault) → HasReason fault → ⊥
+    no_fault step fault h = no_reason step h.reason h.holds

@@ -13,7 +13,7 @@ use Rattle.item_ids.specs.Inputs.{rank}
 use Rattle.item_ids.proofs.Lists.{all_push}
 use Rattle.recorder.specs.Projects.{Project}
 use Rattle.recorder.specs.Backed.{Meaning, ReadLists, Queries, AreLawful, ReadValue, keys, Gives, GivesEach}
-use Rattle.sessions.specs.Sessions.{SessionValue, IsSession, Entry, entry_of, entry_at}
+use Rattle.sessions.specs.Sessions.{SessionValue, IsSession, IsTakenFrom, Entry, entry_of, entry_at}
 use Rattle.sessions.specs.Spelling.{file_of}
 use Rattle.sessions.proofs.EntryRules.{entry_of_place, has_key}
 use Rattle.named_files.specs.Projects.{IsProject}
@@ -124,9 +124,9 @@ module _ (queries : Queries) (laws : AreLawful queries) (lesser : (a b : Key) �
   -- file k is refused for its record n
   module _ (files : List (List ℕ)) (old new : List Key) (k n : ℕ) (why : Mismatch) (other : why ≢ OutOfMemory) where
     refused_at : (front : List SessionValue) (s : SessionValue) (bytes : List ℕ) (rest : List (List ℕ)) → file_of s ≡ bytes → map file_of front ++ bytes ∷ rest ≡ files
-        → AllByRecursion IsSession front → IsSession s → ArePassed queries None 0 front → IsSessionStep queries.by_profile (last_of None front) (length front) s
+        → AllByRecursion IsSession front → IsSession s → IsTakenFrom (last_of None front) s → ArePassed queries None 0 front → IsSessionStep queries.by_profile (last_of None front) (length front) s
         → k ≡ length front → IsFirstMismatch (queries.mean s.terms.profile) (queries.reads s.terms.profile) s n why → HasFirstWrong queries files k n
-    refused_at front s bytes rest spells spelled each session passed step is first = record {
+    refused_at front s bytes rest spells spelled each session taken passed step is first = record {
       front = front;
       session = s;
       rest = rest;
@@ -134,6 +134,7 @@ module _ (queries : Queries) (laws : AreLawful queries) (lesser : (a b : Key) �
       many = sym is;
       each = each;
       is = session;
+      taken = taken;
       passed = passed;
       step = subst (λ (m : ℕ). IsSessionStep queries.by_profile (last_of None front) m s) (sym is) step;
       wrong = first_wrong front s each session passed step n why other first;
@@ -142,17 +143,26 @@ module _ (queries : Queries) (laws : AreLawful queries) (lesser : (a b : Key) �
   pub other_read : (files : List (List ℕ)) (old new : List Key) (k n i : ℕ) → IsRefusedBehind queries files old new (faults.OtherRead k n i) → HasFirstWrong queries files k n
   other_read files old new k n i h = elim h.refused.2 [
     | inl none ↦ absurd none
-    | inr x ↦ refused_at files old new k n (OtherRead i) (λ e. absurd (cc)) h.front h.refused.0 h.file_bytes h.rest h.refused.1.spelled h.spelled h.each h.refused.1.session h.passed x.0 x.1.0 x.1.1
+    | inr x ↦ elim x [
+      | inl y ↦ refused_at files old new k n (OtherRead i) (λ e. absurd (cc)) h.front h.refused.0 h.file_bytes h.rest h.refused.1.spelled h.spelled h.each h.refused.1.session h.refused.1.taken h.passed y.0 y.1.0 y.1.1
+      | inr memory ↦ absurd cc
+    ]
   ]
 
   pub unread_edges : (files : List (List ℕ)) (old new : List Key) (k n : ℕ) → IsRefusedBehind queries files old new (faults.UnreadEdges k n) → HasFirstWrong queries files k n
   unread_edges files old new k n h = elim h.refused.2 [
     | inl none ↦ absurd none
-    | inr x ↦ refused_at files old new k n UnreadEdges (λ e. absurd (cc)) h.front h.refused.0 h.file_bytes h.rest h.refused.1.spelled h.spelled h.each h.refused.1.session h.passed x.0 x.1.0 x.1.1
+    | inr x ↦ elim x [
+      | inl y ↦ refused_at files old new k n UnreadEdges (λ e. absurd (cc)) h.front h.refused.0 h.file_bytes h.rest h.refused.1.spelled h.spelled h.each h.refused.1.session h.refused.1.taken h.passed y.0 y.1.0 y.1.1
+      | inr memory ↦ absurd cc
+    ]
   ]
 
   pub other_result : (files : List (List ℕ)) (old new : List Key) (k n : ℕ) → IsRefusedBehind queries files old new (faults.OtherResult k n) → HasFirstWrong queries files k n
   other_result files old new k n h = elim h.refused.2 [
     | inl none ↦ absurd none
-    | inr x ↦ refused_at files old new k n OtherResult (λ e. absurd (cc)) h.front h.refused.0 h.file_bytes h.rest h.refused.1.spelled h.spelled h.each h.refused.1.session h.passed x.0 x.1.0 x.1.1
+    | inr x ↦ elim x [
+      | inl y ↦ refused_at files old new k n OtherResult (λ e. absurd (cc)) h.front h.refused.0 h.file_bytes h.rest h.refused.1.spelled h.spelled h.each h.refused.1.session h.refused.1.taken h.passed y.0 y.1.0 y.1.1
+      | inr memory ↦ absurd cc
+    ]
   ]

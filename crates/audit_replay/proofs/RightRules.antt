@@ -77,7 +77,8 @@ module _ (queries : Queries) (past : Option SessionValue) (k : ℕ) (s : Session
 
   not_session : (fault : AuditFault) → SessionRefuses queries past k s fault → fault ≡ faults.OutOfMemory
   not_session fault (inl g) = not_step fault g
-  not_session fault (inr g) = not_plan fault g.1
+  not_session fault (inr (inl g)) = not_plan fault g.1
+  not_session fault (inr (inr memory)) = memory
 
 -- ---- files
 

@@ -291,14 +291,23 @@ behind_against queries files old new p fault r = r
 pub behind : (queries : Queries) (files : List (List ℕ)) (old new : List Key) (fault : AuditFault) → IsRefusedBehind queries files old new fault → AuditRefuses queries files old new fault
 behind queries files old new EmptyChain r = absurd (elim r.refused.2 [
   | inl x ↦ x
-  | inr x ↦ x.1
+  | inr x ↦ elim x [
+    | inl y ↦ y.1
+    | inr memory ↦ absurd cc
+  ]
 ])
 behind queries files old new NoAnswer r = absurd (elim r.refused.2 [
   | inl x ↦ x
-  | inr x ↦ x.1
+  | inr x ↦ elim x [
+    | inl y ↦ y.1
+    | inr memory ↦ absurd cc
+  ]
 ])
 behind queries files old new SourcesDiffer r = absurd (elim r.refused.2 [
   | inl x ↦ x
-  | inr x ↦ x.1
+  | inr x ↦ elim x [
+    | inl y ↦ y.1
+    | inr memory ↦ absurd cc
+  ]
 ])
 behind queries files old new fault r = r

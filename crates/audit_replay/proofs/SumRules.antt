@@ -140,7 +140,10 @@ module _ (queries : Queries) (kept : Sum) (ss : List SessionValue) (a : IsSumOf 
 session_counts : (queries : Queries) (past : Option SessionValue) (k : ℕ) (s : SessionValue) (fault : AuditFault) → SessionRefuses queries past k s fault → (n : ℕ) → CountsFault fault n n
 session_counts queries past k s (File j f) r n = absurd (elim r [
   | inl x ↦ x
-  | inr x ↦ x.1
+  | inr x ↦ elim x [
+    | inl y ↦ y.1
+    | inr memory ↦ cc
+  ]
 ])
 session_counts queries past k s fault r n = refl
 

@@ -1,5 +1,6 @@
 -- One session over the one before: its step, and its executed records replayed.
-use Rattle.std.specs.Prelude.{◌≡◌, ◌⊎◌, ℕ, true, List, length, Option, Result, Ok, Err}
+use Rattle.std.specs.Prelude.{◌≡◌, ◌⊎◌, ℕ, Bool, true, List, length, Option, Result, Ok, Err}
+use Rattle.item_ids.specs.declared.kind.Kind.{Kind}
 use Rattle.item_ids.specs.declared.key.Key.{Key}
 use Rattle.recorder.specs.Backed.{Queries}
 use Rattle.sessions.specs.Sessions.{SessionValue, IsSession, IsTakenFrom, entry_at}
@@ -23,13 +24,20 @@ pub record Passes (queries : Queries) (past : Option SessionValue) (k : ℕ)
   pub replayed : AreReplayed (queries.mean s.terms.profile) (queries.reads s.terms.profile)
       (entry_at s) (λ _. true)
 
--- the first fault of session k over the previous one: of its step, then of its executed records
+-- the step of session k over the previous one, unless memory runs out before it
+abbrev pub StepGives
+    : (Kind → Bool) → Option SessionValue → ℕ → SessionValue → Result (List ℕ) AuditFault → Type 0
+StepGives by past k s result = CheckStepGives by past k s result ⊎ (result ≡ Err OutOfMemory)
+
+-- The first fault of session k over the previous one: of its step, then of its executed records. Memory may run out
+-- at any time.
 abbrev pub SessionRefuses
     : Queries → Option SessionValue → ℕ → SessionValue → AuditFault → Type 0
 SessionRefuses queries past k s fault =
     CheckStepGives queries.by_profile past k s (Err fault)
     ⊎ (IsSessionStep queries.by_profile past k s
     × RefusesPlan (queries.mean s.terms.profile) (queries.reads s.terms.profile) k s fault)
+    ⊎ (fault ≡ OutOfMemory)
 
 -- a session passes, and so many records were run; else its first fault
 abbrev pub SessionGives

@@ -4,7 +4,7 @@ use Rattle.std.specs.List.{AllByRecursion}
 use Rattle.item_ids.specs.declared.key.Key.{Key}
 use Rattle.recorder.specs.Projects.{Project}
 use Rattle.recorder.specs.Backed.{Meaning, ReadLists, Queries}
-use Rattle.sessions.specs.Sessions.{RecordValue, SessionValue, IsSession, Entry, key_at, entry_at}
+use Rattle.sessions.specs.Sessions.{RecordValue, SessionValue, IsSession, IsTakenFrom, Entry, key_at, entry_at}
 use Rattle.sessions.specs.Spelling.{file_of}
 use Rattle.graph_rules.specs.Pasts.{Past}
 use Rattle.graph_rules.specs.Settings.{Setting}
@@ -39,8 +39,8 @@ pub record IsFirstWrong (queries : Queries) (past : Option SessionValue) (s : Se
   pub wrong : item.value ≡ queries.mean s.terms.profile project item.key
       → map (key_at s.records) item.edges ≡ queries.reads s.terms.profile project item.key → ⊥
 
--- File k is that of a session behind sessions that pass: it is linked to them, it holds the files
--- of a project, and its green records stand in the last of them. If no two different results in
+-- File k is that of a session behind sessions that pass: it is taken from the last of them and linked to
+-- it, it holds the files of a project, and its green records stand in the last of them. If no two different results in
 -- it and in them share a fingerprint, they are right, and record n is the first of its session that
 -- is wrong.
 pub record HasFirstWrong (queries : Queries) (files : List (List ℕ))
@@ -52,6 +52,7 @@ pub record HasFirstWrong (queries : Queries) (files : List (List ℕ))
   pub many : length front ≡ k
   pub each : AllByRecursion IsSession front
   pub is : IsSession session
+  pub taken : IsTakenFrom (last_of None front) session
   pub passed : ArePassed queries None 0 front
   pub step : IsSessionStep queries.by_profile (last_of None front) k session
   pub wrong : AreApart (front ++ session ∷ [])

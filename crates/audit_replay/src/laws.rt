@@ -1,5 +1,5 @@
 //! Laws of sessions that passed an audit.
-ghost use Rattle.std.specs.Prelude.{◌≡◌, ℕ, List, Option, None, map};
+ghost use Rattle.std.specs.Prelude.{◌≡◌, ◌∷◌, ◌++◌, ℕ, List, [], Option, None, map};
 ghost use Rattle.std.specs.List.{AllByRecursion};
 ghost use Rattle.profiles.specs.declared.profile.Profile.{Profile};
 ghost use Rattle.item_ids.specs.declared.key.Key.{Key};
@@ -95,6 +95,17 @@ pub fn one_refusal_holds()
         → IsToldByFiles one → IsToldByFiles other
         → AuditRefusesAgainst queries files old new project one
         → AuditRefusesAgainst queries files before after project other → one ≡ other }
+{}
+
+/// If one of them holds, no record is refused because it differs from its run, unless two different results in the
+/// sessions up to that record's share a fingerprint: each record that is refused so is the first wrong one of its
+/// session, and there is none.
+pub fn told_refusals_leave_no_mismatch()
+    ensures { (queries : Queries) → AreLawful queries
+        → (files : List (List ℕ)) (old new : List Key) (told : AuditFault) → IsToldByFiles told
+        → AuditRefuses queries files old new told
+        → (k n : ℕ) (wrong : HasFirstWrong queries files k n)
+        → ¬ AreApart (wrong.front ++ wrong.session ∷ []) }
 {}
 
 /// None of them holds of files that are accepted.

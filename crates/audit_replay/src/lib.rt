@@ -17,4 +17,5 @@ pub use chain::{Audited, audit};
 pub use laws::{
     accepted_are_not_refused, accepted_are_right_chains, files_tell_their_sessions,
     one_refusal_holds, passed_are_right, refused_records_are_wrong, right_chains_pass,
+    told_refusals_leave_no_mismatch,
 };

@@ -4,9 +4,8 @@ ghost use Rattle.std.specs.Option.{option_copied};
 ghost use Rattle.sessions.specs.Sessions.{IsTakenFrom, entry_at};
 ghost use Rattle.audit_graph.specs.Plans.{executed_in};
 ghost use Rattle.audit_graph.specs.Sources.{HasSources};
-ghost use Rattle.audit_graph.specs.Steps.{CheckStepGives};
 ghost use Rattle.audit_replay.specs.Logs.{LogGives, executed_keys};
-ghost use Rattle.audit_replay.specs.Passes.{SessionGives};
+ghost use Rattle.audit_replay.specs.Passes.{SessionGives, StepGives};
 
 use crate::replay::plan::run_plan;
 use audit_graph::{AuditFault, Past, Plan, check_step};
@@ -47,14 +46,16 @@ fn check_over<R: Runner>(
     k: usize,
     session: &Session,
 ) -> Result<Plan, AuditFault>
-    ensures gives { CheckStepGives R.queries.by_profile (option_copied prev.entry) k session.now
-        result }
+    ensures gives { StepGives R.queries.by_profile (option_copied prev.entry) k session.now result }
     ensures sources { IfOk result
         (λ _. (session.now.number ≡ k) × HasSources (entry_at session.now)) }
     ensures plan { IfOk result (λ plan. plan ≡ executed_in session.now) }
 {
     match prev {
-        Some(prev) => check_step::<R>(alloc, Some(&Past::of(prev)), k, session),
+        Some(prev) => match Past::of(alloc, prev) {
+            Ok(past) => check_step::<R>(alloc, Some(&past), k, session),
+            Err(_) => Err(AuditFault::OutOfMemory),
+        },
         None => check_step::<R>(alloc, None, k, session),
     }
 }
