@@ -1,6 +1,6 @@
 //! One session, by one worker who starts no thread.
 ghost use Rattle.std.specs.Prelude.{◌≡◌, IfOk};
-ghost use Rattle.sessions.specs.Sessions.{session_in};
+ghost use Rattle.sessions.specs.Sessions.{SessionValue, session_in};
 ghost use Rattle.graph_rules.specs.NextSessions.{StandsApart, IsNextSession};
 ghost use Rattle.shared_table.specs.Opened.{IsOpenedFor};
 ghost use Rattle.driver.specs.Sessions.{DriveGives, IsSessionOf};
@@ -33,6 +33,10 @@ pub fn drive_alone<R: Runner + Drop, F: Fn() -> R, W: Jobs, G: Gate>(
     // A session that stands apart from the previous one is the next session.
     ensures next { IfOk result (λ done. StandsApart R.queries (session_in basis.past) done.0
         → IsNextSession R.queries basis.terms (session_in basis.past) project.now done.0) }
+    // The next session, if it stands apart from the previous one, is this one.
+    ensures only { IfOk result (λ done. (next : SessionValue)
+        → IsNextSession R.queries basis.terms (session_in basis.past) project.now next
+        → StandsApart R.queries (session_in basis.past) next → done.0 ≡ next) }
 {
     let Basis { terms, past } = basis;
     // What the types of the project, the past and the runner keep, from which the law on sessions has the clause `next`.

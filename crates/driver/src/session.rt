@@ -6,7 +6,7 @@ ghost use Rattle.shared_table.specs.Closing.{IsClosing};
 ghost use Rattle.shared_table.specs.Closes.{MayClose};
 ghost use Rattle.recorder.specs.Backed.{AreLawful};
 ghost use Rattle.sessions.specs.Terms.{first_terms};
-ghost use Rattle.sessions.specs.Sessions.{IsSession, session_in};
+ghost use Rattle.sessions.specs.Sessions.{IsSession, SessionValue, session_in};
 ghost use Rattle.graph_rules.specs.NextSessions.{StandsApart, IsNextSession};
 ghost use Rattle.shared_table.specs.Opened.{IsOpenedFor};
 ghost use Rattle.driver.specs.Sessions.{IsCrew, DriveGives, IsSessionOf};
@@ -85,6 +85,10 @@ pub fn drive_as<
     // A session that stands apart from the previous one is the next session.
     ensures next { IfOk result (λ done. StandsApart R.queries (session_in basis.past) done.0
         → IsNextSession R.queries basis.terms (session_in basis.past) project.now done.0) }
+    // The next session, if it stands apart from the previous one, is this one.
+    ensures only { IfOk result (λ done. (next : SessionValue)
+        → IsNextSession R.queries basis.terms (session_in basis.past) project.now next → StandsApart R.queries (session_in basis.past) next
+        → done.0 ≡ next) }
 {
     let Crew { workers, jobs } = crew;
     let Basis { terms, past } = basis;

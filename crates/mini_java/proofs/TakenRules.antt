@@ -1,5 +1,5 @@
 -- Files that were taken one after the other.
-use Rattle.std.proofs.Common.{◌≡◌, ◌∙◌, inl, inr, ℕ, List, [], ◌∷◌, ◌++◌, length, None, Result, Ok, Err, refl, sym, ap, subst}
+use Rattle.std.proofs.Common.{◌≡◌, ◌≢◌, ◌∙◌, inl, inr, ℕ, List, [], ◌∷◌, ◌++◌, length, None, Result, Ok, Err, refl, sym, ap, subst}
 use Rattle.std.specs.Prelude.{IfOk, IfErr, OnOk}
 use Rattle.std.specs.Arc.{arc_value}
 use Rattle.std.proofs.lemmas.List.{length-map}
@@ -12,13 +12,14 @@ use Rattle.sessions.specs.Sessions.{SessionValue}
 use Rattle.sessions.specs.Spelling.{file_of}
 use Rattle.graph_rules.specs.Next.{AreSources}
 use Rattle.audit_graph.specs.declared.fault.AuditFault.{AuditFault}
+use Rattle.audit_graph.specs.declared.fault.AuditFault.TheVariants.{EmptyChain, NoAnswer, SourcesDiffer, OutOfMemory}
 use Rattle.audit_replay.specs.Passes.{FileRefuses}
 use Rattle.audit_replay.specs.Audits.{AreApart, AreRight, HaveFiles, IsLastProfile, last_of, last_entry}
-use Rattle.audit_replay.specs.Sums.{AreSummed, EndGives, EndGivesAgainst, IsDeviceFault, Sums, TakeRefuses, TakesSession}
+use Rattle.audit_replay.specs.Sums.{AreSummed, EndGives, EndGivesAgainst, EndRefuses, EndRefusesAgainst, IsDeviceFault, Sums, TakeRefuses, TakesSession}
 use Rattle.audit_replay.specs.declared.chain.Audited.{Audited}
 use Rattle.audit_replay.specs.declared.sum.Sum.{Sum}
 use Rattle.audit_replay.proofs.FileRules.{file_passed}
-use Rattle.audit_replay.proofs.SumEnds.{against_accepts, against_means, against_refuses, audit_accepts, audit_last, audit_right, audit_means, audit_refuses, behind, summed_none}
+use Rattle.audit_replay.proofs.SumEnds.{against_accepts, against_last, against_means, against_refuses, against_right, audit_accepts, audit_last, audit_right, audit_means, audit_refuses, behind, summed_none}
 use Rattle.mini_java.specs.Headline.{ChainRefuses, ChainRefusesAgainst, IsAcceptedAgainst, IsAcceptedChain, IsOfTheRules}
 use Rattle.mini_java.specs.Taken.{RefusesBehind, TakesFile}
 use Rattle.mini_java.specs.declared.auditor.ChainAuditor.{ChainAuditor}
@@ -70,6 +71,16 @@ module _ (files : List (List ℕ)) (bytes : List ℕ) (now new : List Key) (stat
 
 -- ---- the end
 
+-- an end takes no memory
+end_apart : (ss : List SessionValue) (fault : AuditFault) → EndRefuses ss fault → fault ≢ OutOfMemory
+end_apart ss EmptyChain r = λ e. absurd cc
+end_apart ss NoAnswer r = λ e. absurd cc
+end_apart ss fault r = absurd r
+
+against_apart : (ss : List SessionValue) (p : Project) (fault : AuditFault) → EndRefusesAgainst ss p fault → fault ≢ OutOfMemory
+against_apart ss p SourcesDiffer r = λ e. absurd cc
+against_apart ss p fault r = end_apart ss fault r
+
 module _ (log : List Key) (state : Result Sum AuditFault) where
   pub end_accepted : (r : Result Audited AuditFault) → ((ss : List SessionValue) → Sums state ss → EndGives queries ss r)
       → IfOk r (λ a. (files : List (List ℕ)) → AreSummed queries files [] log state → IsAcceptedChain files a.profile (arc_value a.answer) a.sessions a.runs)
@@ -104,9 +115,29 @@ module _ (log : List Key) (state : Result Sum AuditFault) where
     refused = audit_refuses queries mini_java_laws files [] log state t (Err fault) (gives t.sessions t.sums);
   }
 
+  pub end_memory : (r : Result Audited AuditFault) → ((ss : List SessionValue) → Sums state ss → EndGives queries ss r)
+      → IfErr r (λ fault. (files : List (List ℕ)) → AreSummed queries files [] log state → fault ≢ OutOfMemory)
+  end_memory (Ok a) gives = tt
+  end_memory (Err fault) gives = λ files t. end_apart t.sessions fault (gives t.sessions t.sums)
+
   -- ---- against a project
 
   module _ (p : Project) where
+    pub against_profile : (r : Result Audited AuditFault) → ((ss : List SessionValue) → Sums state ss → EndGivesAgainst queries ss p r)
+        → IfOk r (λ a. (files : List (List ℕ)) (ss : List SessionValue) → AreSummed queries files [] log state → HaveFiles ss files → IsLastProfile ss a.profile)
+    against_profile (Ok a) gives = λ files ss t. against_last queries mini_java_laws files [] log state t p (Ok a) (gives t.sessions t.sums) ss
+    against_profile (Err fault) gives = tt
+
+    pub against_each : (r : Result Audited AuditFault) → ((ss : List SessionValue) → Sums state ss → EndGivesAgainst queries ss p r)
+        → IfOk r (λ a. (files : List (List ℕ)) (ss : List SessionValue) → AreSummed queries files [] log state → HaveFiles ss files → AreApart ss → AreRight queries None ss)
+    against_each (Ok a) gives = λ files ss t. against_right queries mini_java_laws files [] log state t p (Ok a) (gives t.sessions t.sums) ss
+    against_each (Err fault) gives = tt
+
+    pub against_memory : (r : Result Audited AuditFault) → ((ss : List SessionValue) → Sums state ss → EndGivesAgainst queries ss p r)
+        → IfErr r (λ fault. (files : List (List ℕ)) → AreSummed queries files [] log state → fault ≢ OutOfMemory)
+    against_memory (Ok a) gives = tt
+    against_memory (Err fault) gives = λ files t. against_apart t.sessions p fault (gives t.sessions t.sums)
+
     pub against_accepted : (r : Result Audited AuditFault) → ((ss : List SessionValue) → Sums state ss → EndGivesAgainst queries ss p r)
         → IfOk r (λ a. (files : List (List ℕ)) → AreSummed queries files [] log state → IsAcceptedAgainst p files a.profile (arc_value a.answer) a.sessions a.runs)
     against_accepted (Ok a) gives = λ files t.

@@ -56,8 +56,15 @@ pub fn audit_chain_against(
     ensures accepted { IfOk result (λ a.
         IsAcceptedAgainst project.now (map (λ f. f.now) chain.now) a.profile (arc_value a.answer)
         a.sessions a.runs) }
-    // If no two different results in the files share a fingerprint, the answer is what the static rules of the
-    // profile give the project.
+    // What follows of the sessions whose files these are: the profile is that of the last one,
+    ensures profile { IfOk result (λ a. (sessions : List SessionValue)
+        → HaveFiles sessions (map (λ f. f.now) chain.now)
+        → IsLastProfile sessions a.profile) }
+    // and if no two different results in them share a fingerprint, each is right over the one before,
+    ensures right { IfOk result (λ _. (sessions : List SessionValue)
+        → HaveFiles sessions (map (λ f. f.now) chain.now) → AreApart sessions
+        → AreRight queries None sessions) }
+    // and the answer is what the static rules of the profile give the project.
     ensures headline { IfOk result (λ a. (sessions : List SessionValue)
         → HaveFiles sessions (map (λ f. f.now) chain.now) → AreApart sessions
         → IsOfTheRules a.profile project.now (arc_value a.answer)) }

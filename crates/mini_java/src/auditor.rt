@@ -1,5 +1,5 @@
 //! The audit of one file after the other by MiniJava's queries.
-ghost use Rattle.std.specs.Prelude.{◌≡◌, ℕ, List, [], None, map, OnOk, IfOk, IfErr};
+ghost use Rattle.std.specs.Prelude.{◌≡◌, ◌≢◌, ℕ, List, [], None, map, OnOk, IfOk, IfErr};
 ghost use Rattle.std.specs.Arc.{arc_value};
 ghost use Rattle.std.specs.Option.{option_copied};
 ghost use Rattle.recorder.specs.Projects.{Project};
@@ -90,6 +90,9 @@ impl ChainAuditor {
             → IsOfTheRules a.profile project (arc_value a.answer)) }
         ensures refused { IfErr result (λ fault. (files : List (List ℕ)) → HasTaken files self
             → ChainRefuses files fault) }
+        // It takes no memory.
+        ensures memory { IfErr result (λ fault. (files : List (List ℕ)) → HasTaken files self
+            → fault ≢ AuditFault.OutOfMemory) }
         ensures again { (fault : Fault) → HasRefused fault self → result ≡ Err fault }
     {
         // The answer that the queries mean is that of the rules.
@@ -103,13 +106,23 @@ impl ChainAuditor {
         // What was checked.
         ensures accepted { IfOk result (λ a. (files : List (List ℕ)) → HasTaken files self
             → IsAcceptedAgainst project.now files a.profile (arc_value a.answer) a.sessions a.runs) }
-        // If no two different results in the files share a fingerprint, the answer is what the static rules of the
-        // profile give the project.
+        // What follows of the sessions whose files were taken: the profile is that of the last one,
+        ensures profile { IfOk result (λ a. (files : List (List ℕ))
+            (sessions : List SessionValue) → HasTaken files self → HaveFiles sessions files
+            → IsLastProfile sessions a.profile) }
+        // and if no two different results in them share a fingerprint, each is right over the one before,
+        ensures right { IfOk result (λ _. (files : List (List ℕ)) (sessions : List SessionValue)
+            → HasTaken files self → HaveFiles sessions files → AreApart sessions
+            → AreRight queries None sessions) }
+        // and the answer is what the static rules of the profile give the project.
         ensures headline { IfOk result (λ a. (files : List (List ℕ)) (sessions : List SessionValue)
             → HasTaken files self → HaveFiles sessions files → AreApart sessions
             → IsOfTheRules a.profile project.now (arc_value a.answer)) }
         ensures refused { IfErr result (λ fault. (files : List (List ℕ)) → HasTaken files self
             → ChainRefusesAgainst project.now files fault) }
+        // It takes no memory.
+        ensures memory { IfErr result (λ fault. (files : List (List ℕ)) → HasTaken files self
+            → fault ≢ AuditFault.OutOfMemory) }
         ensures again { (fault : Fault) → HasRefused fault self → result ≡ Err fault }
     {
         // The answer that the queries mean is that of the rules.

@@ -1,8 +1,8 @@
 //! One session of a MiniJava project.
-ghost use Rattle.std.specs.Prelude.{IfOk};
+ghost use Rattle.std.specs.Prelude.{◌≡◌, IfOk};
 ghost use Rattle.query_rules.specs.Queries.{queries};
 ghost use Rattle.sessions.specs.Terms.{first_terms};
-ghost use Rattle.sessions.specs.Sessions.{session_in};
+ghost use Rattle.sessions.specs.Sessions.{SessionValue, session_in};
 ghost use Rattle.graph_rules.specs.NextSessions.{StandsApart, IsNextSession};
 ghost use Rattle.driver.specs.Sessions.{DriveGives};
 
@@ -27,6 +27,10 @@ pub fn run_session<G: Gate + Sync, T: Threads + Wait + Sync>(
     ensures gives { DriveGives queries first_terms (session_in prev) project.now workers result }
     ensures next { IfOk result (λ done. StandsApart queries (session_in prev) done.0
         → IsNextSession queries first_terms (session_in prev) project.now done.0) }
+    // The next session, if it stands apart from the previous one, is this one.
+    ensures only { IfOk result (λ done. (next : SessionValue)
+        → IsNextSession queries first_terms (session_in prev) project.now next → StandsApart queries (session_in prev) next
+        → done.0 ≡ next) }
 {
     run_session_as(rt, alloc, prev, project, Terms::first(), workers, gate)
 }
@@ -46,6 +50,10 @@ pub fn run_session_as<G: Gate + Sync, T: Threads + Wait + Sync>(
     // A session that stands apart from the previous one is the next session.
     ensures next { IfOk result (λ done. StandsApart queries (session_in prev) done.0
         → IsNextSession queries terms (session_in prev) project.now done.0) }
+    // The next session, if it stands apart from the previous one, is this one.
+    ensures only { IfOk result (λ done. (next : SessionValue)
+        → IsNextSession queries terms (session_in prev) project.now next → StandsApart queries (session_in prev) next
+        → done.0 ≡ next) }
 {
     drive_as(
         rt,
@@ -73,6 +81,10 @@ pub fn run_session_alone<G: Gate>(
     // A session that stands apart from the previous one is the next session.
     ensures next { IfOk result (λ done. StandsApart queries (session_in prev) done.0
         → IsNextSession queries terms (session_in prev) project.now done.0) }
+    // The next session, if it stands apart from the previous one, is this one.
+    ensures only { IfOk result (λ done. (next : SessionValue)
+        → IsNextSession queries terms (session_in prev) project.now next → StandsApart queries (session_in prev) next
+        → done.0 ≡ next) }
 {
     let basis = Basis { terms, past: prev };
     drive_alone(

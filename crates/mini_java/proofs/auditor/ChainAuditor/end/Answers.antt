@@ -1,4 +1,4 @@
-use Rattle.mini_java.proofs.TakenRules.{end_accepted, end_last, end_right, end_headline, end_refused}
+use Rattle.mini_java.proofs.TakenRules.{end_accepted, end_last, end_right, end_headline, end_memory, end_refused}
 use Rattle.mini_java.proofs.auditor.ChainAuditor.end.Goals as goal
 
 pub returns-clause-accepted : goal.returns-clause-accepted
@@ -15,3 +15,6 @@ returns-clause-headline c = end_headline c.args.self.runner.log.items c.args.sel
 
 pub returns-clause-refused : goal.returns-clause-refused
 returns-clause-refused c = end_refused c.args.self.runner.log.items c.args.self.auditor.state c.end.result c.end.ensures.gives
+
+pub returns-clause-memory : goal.returns-clause-memory
+returns-clause-memory c = end_memory c.args.self.runner.log.items c.args.self.auditor.state c.end.result c.end.ensures.gives
