@@ -89,6 +89,7 @@ module _ (law : AnswerLaw) (terms : Terms) (past : Option SessionValue) (p : Pro
       → IfOk run (λ done. StandsApart queries past done.0 → IsNextSession queries terms past p done.0) → IfOk (made_in run) IsSession
       → IfOk (made_in run) (IsMadeOver terms past p)
   made_over (Ok done) gives next session = record {
+    session = session;
     history = gives.2.history;
     events = gives.2.events;
     answered = closed_answered p done.0 session _ gives.2.events.closing.closed;

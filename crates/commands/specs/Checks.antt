@@ -7,7 +7,7 @@ use Rattle.mj_rules.specs.Rules.{Rules}
 use Rattle.recorder.specs.Projects.{Project}
 use Rattle.query_rules.specs.Queries.{queries}
 use Rattle.sessions.specs.declared.terms.Terms.{Terms}
-use Rattle.sessions.specs.Sessions.{Entry, SessionValue, entry_at, session_in}
+use Rattle.sessions.specs.Sessions.{Entry, SessionValue, IsSession, entry_at, session_in}
 use Rattle.graph_rules.specs.Steps.{Event}
 use Rattle.graph_rules.specs.NextSessions.{StandsApart, IsNextSession}
 use Rattle.mini_java.specs.Sessions.{AreEventsOf}
@@ -50,12 +50,13 @@ pub record IsNextByRules (terms : Terms) (past : Option SessionValue) (p : Proje
   pub next : IsNextSession queries terms past p s
   pub rules : (answer : AnswerValue) → IsAnswerIn s answer → Rules terms.profile p answer
 
--- A legal history of a session of these terms over the previous session and the project closes with the
--- session. Each outcome in it is one that MiniJava's queries give to their reads, and it records the
+-- It is a session, and a legal history of a session of these terms over the previous one and the project
+-- closes with it. Each outcome in it is one that MiniJava's queries give to their reads, and it records the
 -- answer. If it stands apart from the previous session, it is the next one, with the answer of the
 -- static rules.
 pub record IsMadeOver (terms : Terms) (past : Option SessionValue) (p : Project)
     (s : SessionValue) : Type 0 where
+  pub session : IsSession s
   pub history : List Event
   pub events : AreEventsOf queries terms past p history s
   pub answered : RecordsAnswer s
