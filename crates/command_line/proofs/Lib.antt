@@ -6,3 +6,4 @@ mod Uses
 pub mod Walks
 pub mod PlainWords
 pub mod ProgramWords
+pub mod PlainRequests

@@ -443,11 +443,11 @@ asked_are_met words m w is met =
 -- ---- plain arguments
 
 -- the FILEs are enough, and there is no option
-record ArePlain (c : Subcommand) (rest files : List Text) : Type 0 where
-  alone : wants_files_alone c ≡ true
-  enough : is_one_or_more (files_of rest) ≡ true
-  no_option : has_option rest ≡ false
-  files_are : files_of rest ≡ files
+pub record ArePlain (c : Subcommand) (rest files : List Text) : Type 0 where
+  pub alone : wants_files_alone c ≡ true
+  pub enough : is_one_or_more (files_of rest) ≡ true
+  pub no_option : has_option rest ≡ false
+  pub files_are : files_of rest ≡ files
 
 abbrev taken_if : Bool → List Text → Option (List Text)
 taken_if t rest = if t then Some (files_of rest) else None
@@ -463,9 +463,9 @@ abbrev behind_if : Subcommand → Bool → List Text → Option (List Text)
 behind_if c t rest = option_and_then (taken_by c) (if t then Some rest else None)
 
 -- the subcommand is asked for, with plain arguments behind it
-record AsksPlainly (c : Subcommand) (words files : List Text) : Type 0 where
-  asked : AsksFor words c
-  plain : ArePlain c (drop 2 words) files
+pub record AsksPlainly (c : Subcommand) (words files : List Text) : Type 0 where
+  pub asked : AsksFor words c
+  pub plain : ArePlain c (drop 2 words) files
 
 plain_by : (c : Subcommand) (name command : Text) (rest files : List Text) (t : Bool) → bytes_eq (word_for c) command ≡ t → behind_if c t rest ≡ Some files
     → AsksPlainly c (name ∷ command ∷ rest) files
@@ -475,7 +475,7 @@ plain_by c name command rest files true is taken = record {
 }
 plain_by c name command rest files false is taken = absurd (none-some files taken)
 
-asks : (c : Subcommand) (words files : List Text) → files_for c words ≡ Some files → AsksPlainly c words files
+pub asks : (c : Subcommand) (words files : List Text) → files_for c words ≡ Some files → AsksPlainly c words files
 asks c [] files is = absurd (none-some files is)
 asks c (name ∷ []) files is = absurd (none-some files is)
 asks c (name ∷ command ∷ rest) files is = plain_by c name command rest files (bytes_eq (word_for c) command) refl is

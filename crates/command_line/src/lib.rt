@@ -7,6 +7,7 @@ mod command;
 mod given;
 mod help;
 mod reading;
+mod requests;
 
 pub use asked::{
     AuditWords, CheckWords, ScratchWords, ShowWords, Subcommand, WhyWords, Words, WordsFault,

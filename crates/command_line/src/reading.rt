@@ -1,10 +1,11 @@
 //! The command line as `clap` reads it.
-ghost use Rattle.std.specs.Prelude.{◌≡◌, ◌<◌, Some, None, IfOk, IfSome, IsOkUnless, IsTrue};
+ghost use Rattle.std.specs.Prelude.{◌≡◌, ◌<◌, Some, None, IfOk, IfErr, IfSome, IsOkUnless, IsTrue};
 ghost use Rattle.std.specs.Prelude.{List, codes, map, string_bytes, vec_len};
 ghost use Rattle.clap.specs.Words.{first_of, found_of, kind_of, rows_of, subcommand_name_of};
 ghost use Rattle.command_line.specs.CommandLine.{Asks};
 ghost use Rattle.command_line.specs.Matches.{AreEnough, AreMet, AreWordsOf, files_in, has_flag, met_rows};
 ghost use Rattle.command_line.specs.Plain.{IsPlain, asks_plainly, files_for};
+ghost use Rattle.command_line.specs.Requests.{IsHelpAsked, IsHelpIf, IsNoHelp};
 ghost use Rattle.command_line.specs.Runnable.{IsRunnable};
 ghost use Rattle.command_line.specs.Subcommands.{Text, word_for};
 
@@ -16,6 +17,7 @@ use crate::command::{
     PROGRAM, PROGRESS, SOURCE, program,
 };
 use crate::given::{first, flag, number, text, values};
+use crate::requests::is_help_asked;
 use clap::error::ErrorKind;
 use clap::{ArgMatches, Error};
 use std::alloc::Global;
@@ -33,6 +35,7 @@ pub fn words(alloc: Global, list: Vec<String>) -> Result<Words, WordsFault>
     ensures taken { (subcommand : Subcommand)
         → IsTrue (asks_plainly subcommand (map string_bytes list.items))
         → IsOkUnless result WordsFault.OutOfMemory }
+    ensures help { IfErr result (IsHelpAsked (map string_bytes list.items)) }
 {
     let mut list = list;
     if list.is_empty() {
@@ -50,11 +53,12 @@ fn read(alloc: Global, list: &[String]) -> Result<Words, WordsFault>
     ensures taken { (subcommand : Subcommand)
         → IsTrue (asks_plainly subcommand (map string_bytes list.now))
         → IsOkUnless result WordsFault.OutOfMemory }
+    ensures help { IfErr result (IsHelpAsked (map string_bytes list.now)) }
 {
     let program = program(alloc)?;
     match program.try_get_matches_from(list) {
         Ok(matches) => choose(alloc, &matches),
-        Err(error) => Err(refusal(alloc, &error)),
+        Err(error) => Err(refusal(alloc, &error, is_help_asked(list))),
     }
 }
 
@@ -66,6 +70,7 @@ fn choose(alloc: Global, matches: &ArgMatches<'_>) -> Result<Words, WordsFault>
         → subcommand_name_of matches.now ≡ Some (word_for subcommand)
         → AreEnough subcommand (met_rows matches.now)
         → IsOkUnless result WordsFault.OutOfMemory }
+    ensures refused { IfErr result IsNoHelp }
 {
     let Some((name, given)) = matches.subcommand() else {
         return Err(unreadable(alloc));
@@ -86,6 +91,7 @@ fn words_of(
         (rows_of (found_of given.now))) }
     ensures taken { AreEnough subcommand (rows_of (found_of given.now))
         → IsOkUnless result WordsFault.OutOfMemory }
+    ensures refused { IfErr result IsNoHelp }
 {
     let files = values(alloc, given, FILE)?;
     if files.is_empty() {
@@ -112,6 +118,7 @@ fn scratch_words(
         (rows_of (found_of given.now))) }
     ensures taken { first_of (codes "profile") (rows_of (found_of given.now)) ≡ None
         → IsOkUnless result WordsFault.OutOfMemory }
+    ensures refused { IfErr result IsNoHelp }
 {
     match number(given, PROFILE, MOST_PROFILE) {
         Some(profile) => Ok(Words::Scratch(ScratchWords {
@@ -132,6 +139,7 @@ fn check_words(
     requires { 0 < vec_len files }
     ensures words { IfOk result (AreWordsOf Subcommand.Check (map string_bytes files.items)
         (rows_of (found_of given.now))) }
+    ensures refused { IfErr result IsNoHelp }
 {
     let (Some(cache), Some(jobs)) = (first(given, CACHE), number(given, JOBS, MOST_JOBS)) else {
         return Err(unreadable(alloc));
@@ -162,6 +170,7 @@ fn audit_words(
     ensures words { IfOk result (AreWordsOf Subcommand.Audit (map string_bytes files.items)
         (rows_of (found_of given.now))) }
     ensures taken { IsOkUnless result WordsFault.OutOfMemory }
+    ensures refused { IfErr result IsNoHelp }
 {
     let sources = values(alloc, given, SOURCE)?;
     Ok(Words::Audit(AuditWords {
@@ -183,6 +192,7 @@ fn show_words(
     ensures taken { IfSome (first_of (codes "of") (rows_of (found_of given.now)))
         (λ key. IsTrue (has_flag (codes "dot") (rows_of (found_of given.now))))
         → IsOkUnless result WordsFault.OutOfMemory }
+    ensures refused { IfErr result IsNoHelp }
 {
     let dot = flag(given, DOT);
     let of = text(alloc, given, OF)?;
@@ -198,34 +208,40 @@ fn why_words(alloc: Global, given: &ArgMatches<'_>, files: Vec<String>) -> Resul
     ensures words { IfOk result (AreWordsOf Subcommand.Why (map string_bytes files.items)
         (rows_of (found_of given.now))) }
     ensures taken { IsOkUnless result WordsFault.OutOfMemory }
+    ensures refused { IfErr result IsNoHelp }
 {
     let of = text(alloc, given, OF)?;
     Ok(Words::Why(WhyWords { of, files }))
 }
 
-fn unreadable(alloc: Global) -> WordsFault {
+fn unreadable(alloc: Global) -> WordsFault
+    ensures { IsNoHelp result }
+{
     refused(alloc, "error: the arguments were not read\n")
 }
 
 // The arguments are refused with this text.
-fn refused(alloc: Global, why: &str) -> WordsFault {
+fn refused(alloc: Global, why: &str) -> WordsFault
+    ensures { IsNoHelp result }
+{
     match String::from_str(alloc, why) {
         Ok(text) => WordsFault::Refused(text),
         Err(_) => WordsFault::OutOfMemory,
     }
 }
 
-fn refusal(alloc: Global, error: &Error) -> WordsFault
-    ensures { kind_of error.now ≡ ErrorKind.OutOfMemory → result ≡ WordsFault.OutOfMemory }
+// What the program answers if `clap` answers with this error. A text is help only if help is asked for.
+fn refusal(alloc: Global, error: &Error, is_asked: bool) -> WordsFault
+    ensures memory { kind_of error.now ≡ ErrorKind.OutOfMemory → result ≡ WordsFault.OutOfMemory }
+    ensures help { IsHelpIf is_asked result }
 {
     let kind = error.kind();
     if kind == ErrorKind::OutOfMemory {
         return WordsFault::OutOfMemory;
     }
+    let is_help = kind == ErrorKind::DisplayHelp || kind == ErrorKind::DisplayVersion;
     match format!(in alloc; "{error}") {
-        Ok(text) if kind == ErrorKind::DisplayHelp || kind == ErrorKind::DisplayVersion => {
-            WordsFault::Help(text)
-        }
+        Ok(text) if is_help && is_asked => WordsFault::Help(text),
         Ok(text) => WordsFault::Refused(text),
         Err(_) => WordsFault::OutOfMemory,
     }

@@ -29,4 +29,4 @@ returns-in-Err-clause-taken c subcommand plain =
     let short : length c.args.list.now < 2 ^ 64 = search rules in
     let same = length-map c.args.list.now string_bytes in
     let given = asks_some subcommand words plain in
-    c.refusal.ensures (only_memory _ subcommand words given.0 c.in-Err.error c.in_ok-program.ensures given.1 (omega (arith, short, same)) c.in-Err.ensures.kinds)
+    c.refusal.ensures.memory (only_memory _ subcommand words given.0 c.in-Err.error c.in_ok-program.ensures given.1 (omega (arith, short, same)) c.in-Err.ensures.kinds)
