@@ -14,6 +14,8 @@ use std::alloc::Global;
 /// The files that these bytes are, packed one behind the other.
 pub fn unpack(alloc: Global, bytes: &[u8]) -> Result<Vec<(String, Vec<u8>)>, UnpackFault>
     ensures packed { IfOk result (λ files. packed (sources_view files.items) ≡ bytes.now) }
+    // Each has a name that is a text.
+    ensures packable { IfOk result (λ files. AllByRecursion IsPackable (sources_view files.items)) }
     ensures flawed { IfErr result (λ fault. fault ≢ OutOfMemory → Refuses bytes.now fault) }
     // What was packed is unpacked.
     ensures again { (files : List SourceFile) → AllByRecursion IsPackable files
