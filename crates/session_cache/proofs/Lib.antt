@@ -1,2 +1,4 @@
 pub mod NameRules
 pub mod Appending
+pub mod Wholes
+pub mod Chains

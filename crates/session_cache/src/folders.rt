@@ -1,6 +1,7 @@
 //! Reading and writing the cache.
 ghost use Rattle.std.specs.Prelude.{◌≡◌, ◌≤◌, [], length, All, IfOk, IfErr, IsErrAnd};
 ghost use Rattle.session_cache.specs.Names.{most};
+ghost use Rattle.session_cache.specs.Opened.{IsRead, IsReadFront, IsReadLast};
 ghost use Rattle.session_cache.specs.Starts.{IsChainFront, IsLastChain, IsSessionPlace, IsUnreadable, IsUnreadableCache, IsUnwritten};
 
 use crate::fault::{CacheReadFault, CacheWriteFault};
@@ -8,6 +9,7 @@ use crate::filling::{NewFile, write_to};
 use crate::names::{EntryKind, highest, numbers_in};
 use crate::place::{SessionPlace, chain_path};
 use crate::start::LastChain;
+use crate::whole::read_whole;
 use session_file::{FileFault, read_after_by, terms_of_start};
 use sessions::{Form, Session, Terms};
 use std::alloc::Global;
@@ -29,6 +31,7 @@ pub fn find_last<R: Files + AllocGlobal, T: Threads + Sync>(
     workers: usize,
 ) -> Result<LastChain, CacheReadFault>
     ensures last { IfOk result IsLastChain }
+    ensures read { IfOk result (IsReadLast R.File.Read.remaining) }
     ensures unread { IfErr result (IsUnreadableCache dir.now) }
     ensures unnamed { dir.now ≡ [] → IsErrAnd result (IsUnreadable []) }
 {
@@ -56,6 +59,7 @@ fn last_in<R: Files + AllocGlobal, T: Threads + Sync>(
 ) -> Result<LastChain, CacheReadFault>
     requires { chain ≤ most }
     ensures last { IfOk result IsLastChain }
+    ensures read { IfOk result (IsReadLast R.File.Read.remaining) }
     ensures unread { IfErr result (IsUnreadableCache dir.now) }
 {
     let folder = chain_path(rt.alloc(), dir, chain)?;
@@ -88,6 +92,7 @@ fn read_last<R: Files + AllocGlobal, T: Threads + Sync>(
     requires place { IsSessionPlace place }
     requires front { All (λ n. n ≤ most) front.now }
     ensures last { IfOk result IsLastChain }
+    ensures read { IfOk result (IsReadLast R.File.Read.remaining) }
     ensures unread { IfErr result (IsUnreadableCache dir.now) }
 {
     let bytes = match bytes_at(rt, dir, place) {
@@ -204,6 +209,7 @@ fn read_front<R: Files + AllocGlobal, T: Threads + Sync>(
     requires chain { chain ≤ most }
     requires numbers { All (λ n. n ≤ most) numbers.now }
     ensures front { IfOk result IsChainFront }
+    ensures read { IfOk result (IsReadFront R.File.Read.remaining) }
     ensures unread { IfErr result (IsUnreadableCache dir.now) }
 {
     let first = match first_to_read(rt, dir, chain, numbers) {
@@ -235,11 +241,12 @@ fn bytes_at<R: Files + AllocGlobal>(
     place: SessionPlace,
 ) -> Result<Vec<u8>, CacheReadFault>
     requires { IsSessionPlace place }
-    ensures { IfErr result (IsUnreadableCache dir.now) }
+    ensures read { IfOk result (λ bytes. IsRead R.File.Read.remaining bytes.items) }
+    ensures unread { IfErr result (IsUnreadableCache dir.now) }
 {
     let alloc = rt.alloc();
     let path = place.path(alloc, dir)?;
-    match fs::read(rt, path.as_str()) {
+    match read_whole(rt, path.as_str()) {
         Ok(bytes) => Ok(bytes),
         Err(error) => Err(unreadable(alloc, path.as_str(), &error)),
     }

@@ -7,6 +7,7 @@ mod folders;
 mod names;
 mod place;
 mod start;
+mod whole;
 
 pub use fault::{CacheReadFault, CacheWriteFault};
 pub use filling::write_to;
@@ -14,3 +15,4 @@ pub use folders::{find_last, write_file};
 pub use names::{EntryKind, highest};
 pub use place::SessionPlace;
 pub use start::{LastChain, NotFollowed, Note, Start, start_behind};
+pub use whole::read_whole;
