@@ -1,3 +1,4 @@
 pub mod GoingOn
 mod NoNeed
+mod Made
 pub mod OwnFiles

@@ -27,7 +27,7 @@ use Rattle.session_text.specs.declared.causes.cause.Why.{Why}
 use Rattle.session_text.specs.Causes.{AreWhys, IsRightWhy, IsExplained, IsWhy, first_red, have_same_print, is_red, mark_at}
 
 -- if none is found, none passes
-none_passes : {X : Type 0} (test : X → Bool) (xs : List X) → find test xs ≡ None → AllByRecursion (λ x. test x ≡ false) xs
+pub none_passes : {X : Type 0} (test : X → Bool) (xs : List X) → find test xs ≡ None → AllByRecursion (λ x. test x ≡ false) xs
 none_passes test [] none = tt
 none_passes {X} test (x ∷ xs) none =
     (elim (test x) as (λ b. test x ≡ b → cond b (Some x) (find test xs) ≡ None → (test x ≡ false) × AllByRecursion (λ y. test y ≡ false) xs) [
@@ -36,7 +36,7 @@ none_passes {X} test (x ∷ xs) none =
     ]) refl none
 
 -- the two entries that have one fingerprint
-both_have : (old new : Option Entry) → have_same_print old new ≡ true
+pub both_have : (old new : Option Entry) → have_same_print old new ≡ true
     → (had : Entry) × (r : Entry) × (old ≡ Some had) × (new ≡ Some r) × (print_of had.value ≡ print_of r.value)
 both_have None new e = absurd (true≢false (sym e))
 both_have (Some had) None e = absurd (true≢false (sym e))

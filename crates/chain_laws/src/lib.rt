@@ -6,8 +6,9 @@ mod causes;
 mod laws;
 mod of_mini_java;
 
-pub use causes::next_has_causes;
+pub use causes::{causes_end_walks, made_has_causes, next_has_causes};
 pub use laws::{behind_a_right_chain, next_goes_on, next_is_accepted};
 pub use of_mini_java::{
-    checked_is_by_the_rules, made_is_accepted, next_of_mini_java_is_accepted, reads_own_files,
+    checked_is_by_the_rules, made_is_accepted, made_is_read_back, next_of_mini_java_is_accepted,
+    reads_own_files,
 };

@@ -1,5 +1,5 @@
 //! Laws of chains of sessions of MiniJava projects.
-ghost use Rattle.std.specs.Prelude.{◌≡◌, ◌∷◌, ◌++◌, ℕ, List, [], None, Ok};
+ghost use Rattle.std.specs.Prelude.{◌≡◌, ◌∷◌, ◌++◌, ℕ, List, [], Option, None, Ok};
 ghost use Rattle.profiles.specs.declared.profile.Profile.{Profile};
 ghost use Rattle.item_ids.specs.declared.key.Key.{Key};
 ghost use Rattle.result_bytes.specs.declared.value.Value.{Value};
@@ -8,8 +8,9 @@ ghost use Rattle.recorder.specs.Projects.{Project};
 ghost use Rattle.query_rules.specs.Reads.{reads};
 ghost use Rattle.query_rules.specs.Queries.{queries};
 ghost use Rattle.sessions.specs.declared.terms.Terms.{Terms};
-ghost use Rattle.sessions.specs.Sessions.{SessionValue, IsSession};
+ghost use Rattle.sessions.specs.Sessions.{SessionValue, IsSession, IsTakenFrom};
 ghost use Rattle.sessions.specs.Spelling.{file_of};
+ghost use Rattle.session_file.specs.Reading.{file_after};
 ghost use Rattle.driver.specs.declared.reports.Reports.{Reports};
 ghost use Rattle.graph_rules.specs.NextSessions.{IsNextSession, ReadsOwnFiles};
 ghost use Rattle.driver.specs.Sessions.{DriveGives};
@@ -67,4 +68,11 @@ pub fn checked_is_by_the_rules()
         → IsMadeOver terms (last_of None accepted.sessions) p made
         → AreApart (accepted.sessions ++ made ∷ [])
         → IsNextByRules terms (last_of None accepted.sessions) p made }
+{}
+
+/// The file of the session that a check makes is read back, over the previous session, as that session.
+pub fn made_is_read_back()
+    ensures { (terms : Terms) (past : Option SessionValue) (p : Project) (made : SessionValue)
+        → IsMadeOver terms past p made
+        → IsTakenFrom past made × (file_after past (file_of made) ≡ Ok made) }
 {}
