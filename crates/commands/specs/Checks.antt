@@ -13,6 +13,7 @@ use Rattle.graph_rules.specs.NextSessions.{StandsApart, IsNextSession}
 use Rattle.mini_java.specs.Sessions.{AreEventsOf}
 use Rattle.mini_java.specs.DriveFault.{DriveFault}
 use Rattle.mini_java.specs.Reports.{Reports}
+use Rattle.session_cache.specs.Opened.{IsReadLast}
 use Rattle.session_cache.specs.Starts.{IsLastChain, IsStart, IsStartBehind}
 use Rattle.session_cache.specs.declared.start.LastChain.{LastChain}
 use Rattle.session_cache.specs.declared.start.Start.{Start}
@@ -29,9 +30,10 @@ pub record BeginsBehind (dir : List ℕ) (last : LastChain) (b : Beginning) : Ty
   pub place : start.place ≡ b.place
   pub notes : AreNotesOn dir start.note (string_bytes b.notes)
 
--- it begins behind what was read
-abbrev pub IsBeginning : List ℕ → Beginning → Type 0
-IsBeginning dir b = (last : LastChain) × IsLastChain last × BeginsBehind dir last b
+-- it begins behind what was read of opened files, which held this if their type says it
+abbrev pub IsBeginning : {File : Type 0} → (File → Option (List ℕ)) → List ℕ → Beginning → Type 0
+IsBeginning held dir b =
+    (last : LastChain) × IsLastChain last × IsReadLast held last × BeginsBehind dir last b
 
 -- the session's record of the answer has this one
 pub record IsAnswerIn (s : SessionValue) (answer : AnswerValue) : Type 0 where

@@ -1,5 +1,7 @@
 //! Where the next session begins.
 ghost use Rattle.std.specs.Prelude.{◌≡◌, [], IfOk, IfErr, IfSome, IsErrAnd, string_bytes};
+ghost use Rattle.sessions.specs.Sessions.{session_in};
+ghost use Rattle.session_cache.specs.Opened.{IsReadChain};
 ghost use Rattle.session_cache.specs.Starts.{IsLastChain, IsSessionPlace, IsUnreadable, IsUnreadableCache};
 ghost use Rattle.commands.specs.Lines.{AreNotesOn};
 ghost use Rattle.commands.specs.Checks.{BeginsBehind, IsBeginning};
@@ -28,14 +30,15 @@ pub struct Beginning {
 /// Where the next session begins in the cache of this folder: behind the last session of the last chain, or in a new chain
 /// if that one can't be followed. An empty path names no folder, and can't be read. So many workers read the last session,
 /// each in a thread of its own.
-#[tactic(auto, using(crate::proofs::Beginnings::begun))]
+#[tactic(auto, using(crate::proofs::Beginnings::begun, crate::proofs::Beginnings::past_read))]
 pub fn begin<R: Files + AllocGlobal, T: Threads + Sync>(
     rt: &R,
     threads: &T,
     cache: &str,
     workers: usize,
 ) -> Result<Beginning, CacheReadFault>
-    ensures begins { IfOk result (IsBeginning cache.now) }
+    ensures begins { IfOk result (IsBeginning R.File.Read.remaining cache.now) }
+    ensures read { IfOk result (λ b. IsReadChain R.File.Read.remaining (session_in b.past)) }
     ensures unread { IfErr result (IsUnreadableCache cache.now) }
     ensures unnamed { cache.now ≡ [] → IsErrAnd result (IsUnreadable []) }
 {
