@@ -1,7 +1,7 @@
 -- Which failures end a run in which way, and what is written of them.
 use Rattle.std.proofs.Common.{◌≡◌, ◌≢◌, inl, inr, ◌∙◌, ℕ, Bool, true, false, List, [], Option, Some, None, Result, Ok, Err, String, length, string_bytes, refl, sym, ap, subst}
 use Rattle.std.specs.declared.alloc.Global.{Global}
-use Rattle.std.specs.Prelude.{IfOk, IfErr, IsErrAnd, Contains}
+use Rattle.std.specs.Prelude.{◌⊎◌, IfOk, IfErr, IsErrAnd, IsTrue, Contains}
 use Rattle.audit_graph.specs.declared.fault.AuditFault.{AuditFault}
 use Rattle.audit_graph.specs.declared.fault.AuditFault.TheVariants as chain
 use Rattle.named_files.specs.declared.project.ProjectFault.TheVariants as project
@@ -15,9 +15,11 @@ use Rattle.commands.specs.declared.beginning.Beginning.{Beginning}
 use Rattle.command_line.specs.declared.asked.WordsFault.{WordsFault}
 use Rattle.command_line.specs.declared.asked.WordsFault.TheVariants as words
 use Rattle.command_line.specs.CommandLine.{Asks}
+use Rattle.command_line.specs.Requests.{asks_for_help}
 use Rattle.command_line.specs.declared.asked.Words.{Words}
 use Rattle.command_line.specs.declared.asked.Words.TheVariants as asked
 use Rattle.command_line.specs.declared.asked.AuditWords.{AuditWords}
+use Rattle.session_cache.specs.Opened.{AreRead}
 use Rattle.sessions.specs.Sessions.{SessionValue}
 use Rattle.program_run.specs.Audits.{AuditFails, IsStopped, SourcesFail, StopsAt, file_names, source_names}
 use Rattle.commands.specs.declared.auditing.AuditTexts.{AuditTexts}
@@ -27,7 +29,7 @@ use Rattle.program_run.specs.Failures.{AreUnshown, CheckFails, FailsAt, LastFail
 use Rattle.program_run.specs.Shows.{AreLastOfMany, LacksNamedIn, LacksRecord, index_named, of_words}
 use Rattle.program_run.specs.Unread.{AreUnread, IsUnreadFile, NamesFail, cache_failure}
 use Rattle.program_run.specs.Refusals.{IsFailureText}
-use Rattle.program_run.specs.Runs.{IsAnswerStatus, RefusesAudit, ReportsFailure, ReportsRefusal, ReportsUnreadable}
+use Rattle.program_run.specs.Runs.{IsAnswerStatus, RefusesAudit, ReportsAsked, ReportsFailure, ReportsRefusal, ReportsUnreadable, TellsHelp}
 use Rattle.program_run.specs.declared.failure.Failure.{Failure}
 use Rattle.program_run.specs.declared.failure.Failure.TheVariants as failure
 use Rattle.program_run.specs.declared.report.Report.{Report}
@@ -68,6 +70,12 @@ other_refusal : (fault : AuditFault) → status_of_failure (failure.Chain fault)
 other_refusal chain.OutOfMemory = λ e. absurd cc
 other_refusal fault = λ e. absurd cc
 
+-- and isn't want of memory
+no_memory : (fault : AuditFault) → status_of_failure (failure.Chain fault) ≡ status.ChainRefused → fault ≢ chain.OutOfMemory
+no_memory fault ends = λ out.
+    let memory : status.OutOfMemory ≡ status.ChainRefused = ap (λ (f : AuditFault). status_of_failure (failure.Chain f)) (sym out) ∙ ends in
+    absurd cc
+
 no_diagnostics : (why : Failure) → status_of_failure why ≢ status.Diagnostics
 no_diagnostics (failure.Words words.OutOfMemory) = λ e. absurd cc
 no_diagnostics (failure.Project project.OutOfMemory) = λ e. absurd cc
@@ -93,54 +101,55 @@ one_unread names name (failure.CannotRead path) has f = subst (λ (n : List ℕ)
 one_unread names name failure.OutOfMemory has f = tt
 one_unread names name why has f = absurd f
 
-pub unread_names : (names : List (List ℕ)) (why : Failure) → AreUnread names why → NamesFail names why
-unread_names names (failure.Project fault) f = absurd f
-unread_names names why f = f
+module _ {File : Type 0} (held : File → Option (List ℕ)) where
+  pub unread_names : (names : List (List ℕ)) (why : Failure) → AreUnread names why → NamesFail held names why
+  unread_names names (failure.Project fault) f = absurd f
+  unread_names names why f = f
 
-pub names_check : (dir : List ℕ) (names : List (List ℕ)) (why : Failure) → NamesFail names why → CheckFails dir names why
-names_check dir names (failure.CannotRead path) f = inl f
-names_check dir names (failure.CannotWrite notes path) f = absurd f
-names_check dir names why f = f
+  pub names_check : (dir : List ℕ) (names : List (List ℕ)) (why : Failure) → NamesFail held names why → CheckFails held dir names why
+  names_check dir names (failure.CannotRead path) f = inl f
+  names_check dir names (failure.CannotWrite notes path) f = absurd f
+  names_check dir names why f = f
 
-pub cache_check : (dir : List ℕ) (names : List (List ℕ)) (fault : CacheReadFault) → IsUnreadableCache dir fault → CheckFails dir names (cache_failure fault)
-cache_check dir names (cache.CannotRead path) f = inr f
-cache_check dir names cache.OutOfMemory f = tt
+  pub cache_check : (dir : List ℕ) (names : List (List ℕ)) (fault : CacheReadFault) → IsUnreadableCache dir fault → CheckFails held dir names (cache_failure fault)
+  cache_check dir names (cache.CannotRead path) f = inr f
+  cache_check dir names cache.OutOfMemory f = tt
 
--- a session that has no place isn't kept, nor is one whose file isn't written
-pub no_place : (dir : List ℕ) (names : List (List ℕ)) (beginning : Beginning) (path : String Global) → IsBeginning dir beginning → beginning.place ≡ None → string_bytes path ≡ dir
-    → CheckFails dir names (failure.CannotWrite beginning.notes path)
-no_place dir names beginning path begins none is = record { beginning = beginning; begins = begins; told = refl; unwritten = is ∙ ap (unwritten_path dir) (sym none) }
+  -- a session that has no place isn't kept, nor is one whose file isn't written
+  pub no_place : (dir : List ℕ) (names : List (List ℕ)) (beginning : Beginning) (path : String Global) → IsBeginning held dir beginning → beginning.place ≡ None → string_bytes path ≡ dir
+      → CheckFails held dir names (failure.CannotWrite beginning.notes path)
+  no_place dir names beginning path begins none is = record { beginning = beginning; begins = begins; told = refl; unwritten = is ∙ ap (unwritten_path dir) (sym none) }
 
-pub not_written : (dir : List ℕ) (names : List (List ℕ)) (beginning : Beginning) (place : SessionPlace) (path : String Global) → IsBeginning dir beginning → beginning.place ≡ Some place
-    → string_bytes path ≡ path_of dir place → CheckFails dir names (failure.CannotWrite beginning.notes path)
-not_written dir names beginning place path begins here is = record { beginning = beginning; begins = begins; told = refl; unwritten = is ∙ ap (unwritten_path dir) (sym here) }
+  pub not_written : (dir : List ℕ) (names : List (List ℕ)) (beginning : Beginning) (place : SessionPlace) (path : String Global) → IsBeginning held dir beginning → beginning.place ≡ Some place
+      → string_bytes path ≡ path_of dir place → CheckFails held dir names (failure.CannotWrite beginning.notes path)
+  not_written dir names beginning place path begins here is = record { beginning = beginning; begins = begins; told = refl; unwritten = is ∙ ap (unwritten_path dir) (sym here) }
 
--- why files can't be read, or the last isn't shown, is why there is no last session
-pub unread_last : (names : List (List ℕ)) (why : Failure) → AreUnread names why → LastFails names why
-unread_last names (failure.SessionFile fault) f = absurd f
-unread_last names why f = f
+  -- why files can't be read, or the last isn't shown, is why there is no last session
+  pub unread_last : (names : List (List ℕ)) (why : Failure) → AreUnread names why → LastFails held names why
+  unread_last names (failure.SessionFile fault) f = absurd f
+  unread_last names why f = f
 
-pub unshown_last : (names files : List (List ℕ)) (why : Failure) → length files ≡ length names → AreUnshown files why → LastFails names why
-unshown_last names files (failure.SessionFile fault) many f = record { files = files; are_many = many; refuses = f }
-unshown_last names files failure.OutOfMemory many f = tt
-unshown_last names files why many f = absurd f
+  pub unshown_last : (names files : List (List ℕ)) (why : Failure) → length files ≡ length names → AreRead held files → AreUnshown files why → LastFails held names why
+  unshown_last names files (failure.SessionFile fault) many read f = record { files = files; are_many = many; read = read; refuses = f }
+  unshown_last names files failure.OutOfMemory many read f = tt
+  unshown_last names files why many read f = absurd f
 
--- and without one nothing is shown
-pub last_show : (names : List (List ℕ)) (of : Option (String Global)) (why : Failure) → LastFails names why → ShowFails names of why
-last_show names of (failure.NoRecord key) f = absurd f
-last_show names of why f = f
+  -- and without one nothing is shown
+  pub last_show : (names : List (List ℕ)) (of : Option (String Global)) (why : Failure) → LastFails held names why → ShowFails held names of why
+  last_show names of (failure.NoRecord key) f = absurd f
+  last_show names of why f = f
 
-pub lacks_show : (names : List (List ℕ)) (of : Option (String Global)) (many : ℕ) (past : Option SessionValue) (s : SessionValue) (why : Failure)
-    → many ≡ length names → AreLastOfMany many past s → LacksNamedIn (of_words of) s why → ShowFails names of why
-lacks_show names of many past s (failure.NoRecord key) same last f = record {
-  past = past;
-  session = s;
-  last = subst (λ n. AreLastOfMany n past s) same last;
-  named = f.0;
-  lacks = f.1;
-}
-lacks_show names of many past s failure.OutOfMemory same last f = tt
-lacks_show names of many past s why same last f = absurd f
+  pub lacks_show : (names : List (List ℕ)) (of : Option (String Global)) (many : ℕ) (past : Option SessionValue) (s : SessionValue) (why : Failure)
+      → many ≡ length names → AreLastOfMany held many past s → LacksNamedIn (of_words of) s why → ShowFails held names of why
+  lacks_show names of many past s (failure.NoRecord key) same last f = record {
+    past = past;
+    session = s;
+    last = subst (λ n. AreLastOfMany held n past s) same last;
+    named = f.0;
+    lacks = f.1;
+  }
+  lacks_show names of many past s failure.OutOfMemory same last f = tt
+  lacks_show names of many past s why same last f = absurd f
 
 -- the record that was named isn't found
 pub lacks_named : (words : List ℕ) (s : SessionValue) (why : Failure) → LacksRecord words s why → LacksNamedIn (Some words) s why
@@ -157,7 +166,7 @@ module _ {File : Type 0} (held : File → Option (List ℕ)) (before after : Opt
   stopped asked failure.OutOfMemory s = tt
   stopped asked why s = absurd s
 
-  pub no_sources : (asked : AuditWords) (why : Failure) → SourcesFail (source_names asked) why → AuditFails held asked before after why
+  pub no_sources : (asked : AuditWords) (why : Failure) → SourcesFail held (source_names asked) why → AuditFails held asked before after why
   no_sources asked (failure.CannotRead path) s = inl s
   no_sources asked (failure.Project fault) s = s
   no_sources asked failure.OutOfMemory s = tt
@@ -199,11 +208,12 @@ module _ {File : Type 0} (held : File → Option (List ℕ)) (before after : Opt
 
   -- ---- what is written
 
-  chain_report : (given : List (List ℕ)) (fault : AuditFault) (report : Report) → (report.status ≢ status.Clean → string_bytes report.answer ≡ [])
-      → MayFail held given before after (failure.Chain fault) → IsFailureText (failure.Chain fault) (string_bytes report.notes)
+  chain_report : (given : List (List ℕ)) (fault : AuditFault) (report : Report) → report.status ≡ status_of_failure (failure.Chain fault)
+      → (report.status ≢ status.Clean → string_bytes report.answer ≡ []) → MayFail held given before after (failure.Chain fault) → IsFailureText (failure.Chain fault) (string_bytes report.notes)
       → report.status ≡ status.ChainRefused → ReportsRefusal held given before after report
-  chain_report given fault report silent may text e = record {
+  chain_report given fault report ends silent may text e = record {
     fault = fault;
+    named = no_memory fault (sym ends ∙ e);
     refuses = audit_asked given may.asked may.asks fault may.fails;
     line = text;
     silent = silent (λ clean. let r : status.Clean ≡ status.ChainRefused = sym clean ∙ e in absurd cc);
@@ -215,19 +225,42 @@ module _ {File : Type 0} (held : File → Option (List ℕ)) (before after : Opt
       → report.status ≡ status.ChainRefused → ReportsRefusal held given before after report
   reports_refusal given why report ends silent may text e =
       let is = refused_chain why (sym ends ∙ e) in
-      chain_report given is.0 report silent (subst (λ (w : Failure). MayFail held given before after w) is.1 may)
+      chain_report given is.0 report (ends ∙ ap status_of_failure is.1) silent (subst (λ (w : Failure). MayFail held given before after w) is.1 may)
       (subst (λ (w : Failure). IsFailureText w (string_bytes report.notes)) is.1 text) e
 
   -- why a refused run fails stands on standard error
-  pub reports_failure : (given : List (List ℕ)) (why : Failure) (report : Report)
+  pub reports_failure : (given : List (List ℕ)) (why : Failure) (report : Report) → report.status ≡ status_of_failure why
       → (report.status ≢ status.Clean → string_bytes report.answer ≡ []) → MayFail held given before after why → IsFailureText why (string_bytes report.notes)
       → report.status ≡ status.Refused → ReportsFailure held given before after report
-  reports_failure given why report silent may text e = record {
+  reports_failure given why report ends silent may text e = record {
     why = why;
+    named = sym ends ∙ e;
     fails = may;
     notes = text;
     silent = silent (λ clean. let r : status.Clean ≡ status.Refused = sym clean ∙ e in absurd cc);
   }
+
+  -- ---- help
+
+  help_asked : (given : List (List ℕ)) (fault : WordsFault) → status_of_failure (failure.Words fault) ≡ status.Clean → MayFail held given before after (failure.Words fault)
+      → IsTrue (asks_for_help given) × (before ≡ after)
+  help_asked given (words.Help text) e may = (may.1, may.2)
+  help_asked given (words.Refused text) e may = absurd cc
+  help_asked given words.OutOfMemory e may = absurd cc
+
+  tells_help : (given : List (List ℕ)) (why : Failure) (report : Report) → report.status ≡ status_of_failure why → MayFail held given before after why
+      → string_bytes report.notes ≡ [] → report.status ≡ status.Clean → TellsHelp given before after report
+  tells_help given why report ends may notes clean =
+      let is = clean_words why (sym ends ∙ clean) in
+      let told = help_asked given is.0 (sym (ends ∙ ap status_of_failure is.1) ∙ clean) (subst (λ (w : Failure). MayFail held given before after w) is.1 may) in
+      record { asked = told.0; said = told.1; notes = notes; ends = clean }
+
+  -- what ends with an answer though it fails is help
+  pub help_report : {E : Type 0} (given : List (List ℕ)) (why : Failure) (r : Result Report E) → IfOk r (λ report. report.status ≡ status_of_failure why)
+      → IfOk r (λ report. IsAnswerStatus report.status → (string_bytes report.notes ≡ []) × (report.status ≡ status.Clean)) → MayFail held given before after why
+      → IfOk r (λ report. IsAnswerStatus report.status → ReportsAsked held given before after report ⊎ TellsHelp given before after report)
+  help_report given why (Ok report) ends help may = λ answers. inr (tells_help given why report ends may (help answers).0 (help answers).1)
+  help_report given why (Err e) ends help may = tt
 
   reports_unreadable : (names : List (List ℕ)) (why : Failure) (report : Report) → report.status ≡ status_of_failure why
       → (report.status ≢ status.Clean → string_bytes report.answer ≡ [])

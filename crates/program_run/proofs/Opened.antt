@@ -10,7 +10,9 @@ use Rattle.audit_graph.specs.declared.fault.AuditFault.TheVariants as chain
 use Rattle.session_file.specs.declared.fault.FileFault.TheVariants as file
 use Rattle.mini_java.specs.Headline.{ChainRefuses}
 use Rattle.mini_java.specs.Taken.{RefusesBehind}
-use Rattle.program_run.specs.Audits.{FailsBehind, RefusesOpened, failure_of}
+use Rattle.program_run.specs.Audits.{FailsAtOpened, FailsBehind, RefusesAt, failure_of}
+use Rattle.program_run.specs.declared.failure.Failure.{Failure}
+use Rattle.program_run.specs.declared.failure.Failure.TheVariants as failure
 
 -- behind a buffer that holds nothing yet a file holds what it held
 pub buffered_holds : {T A : Type 0} (held : T → Option (List ℕ)) (r : BufReader T A) (file : T) (bytes : List ℕ)
@@ -26,12 +28,19 @@ no_device : (front : List (List ℕ)) (bytes : List ℕ) (fault : AuditFault) �
 no_device front bytes fault never (inl device) = absurd (never _ device.is)
 no_device front bytes fault never (inr refused) = refused
 
-module _ {File : Type 0} (held : File → Option (List ℕ)) (front : List (List ℕ)) (name : String Global) (opened : File) where
+module _ {File : Type 0} (held : File → Option (List ℕ)) (opened : File) (front : List (List ℕ)) where
   other : (fault : AuditFault) → ((k : ℕ) → fault ≢ chain.File k file.Device)
-      → ((bytes : List ℕ) → held opened ≡ Some bytes → RefusesBehind front bytes fault) → RefusesOpened held front fault
-  other fault never refuses = record { opened = opened; refused = λ bytes told. no_device front bytes fault never (refuses bytes told) }
+      → ((bytes : List ℕ) → held opened ≡ Some bytes → RefusesBehind front bytes fault) → RefusesAt held opened front fault
+  other fault never refuses = λ bytes told. no_device front bytes fault never (refuses bytes told)
 
-  pub fails_behind : (fault : AuditFault) → ((bytes : List ℕ) → held opened ≡ Some bytes → RefusesBehind front bytes fault)
-      → FailsBehind held front (string_bytes name) (failure_of name fault)
-  fails_behind (chain.File k file.Device) refuses = refl
-  fails_behind fault refuses = other fault (λ j e. absurd cc) refuses
+  pub fails_at : (name : String Global) (fault : AuditFault) → ((bytes : List ℕ) → held opened ≡ Some bytes → RefusesBehind front bytes fault)
+      → FailsAtOpened held opened front (string_bytes name) (failure_of name fault)
+  fails_at name (chain.File k file.Device) refuses = refl
+  fails_at name fault refuses = other fault (λ j e. absurd cc) refuses
+
+  -- why an opened file isn't taken is why the file of its name isn't
+  pub fails_behind : (name : List ℕ) (why : Failure) → FailsAtOpened held opened front name why → FailsBehind held front name why
+  fails_behind name (failure.CannotRead path) f = f
+  fails_behind name (failure.Chain fault) f = record { opened = opened; refused = f }
+  fails_behind name failure.OutOfMemory f = tt
+  fails_behind name why f = absurd f

@@ -10,6 +10,8 @@ use Rattle.program_run.specs.Audits.{FailsBehind, IsStopped, StopsAt, TakeFails,
 use Rattle.program_run.specs.declared.failure.Failure.{Failure}
 use Rattle.program_run.specs.declared.failure.Failure.TheVariants as failure
 use Rattle.audit_replay.specs.Audits.{last_of}
+use Rattle.item_ids.proofs.Lists.{all_push}
+use Rattle.session_cache.specs.Opened.{IsRead}
 use Rattle.audit_replay.proofs.FileRules.{last_more}
 use Rattle.program_run.proofs.Taking.{many_more}
 use Rattle.program_run.proofs.Streams.{appends_both, appends_none}
@@ -47,11 +49,11 @@ told_front false names rest ss same = refl
 pub many_sessions : (files : List (List ℕ)) (auditor : ChainAuditor) (taken : HasTaken files auditor) → length taken.sessions ≡ length files
 many_sessions files auditor taken = sym (length-map taken.sessions file_of) ∙ ap (λ (fs : List (List ℕ)). length fs) taken.passed.spelled
 
-module _ {A : Type 0} (spell : A → List ℕ) (progress : Bool) (start before after : Option (List ℕ)) where
+module _ {A File : Type 0} (held : File → Option (List ℕ)) (spell : A → List ℕ) (progress : Bool) (start before after : Option (List ℕ)) where
   -- what is said of one file more
-  pub took_more : (ys : List A) (y : A) (old new : ChainAuditor) (was : TookAll (map spell ys) progress start before old)
-      → TakesMore was.front.files was.front.taken.sessions (spell y) progress new before after
-      → TookAll (map spell (ys ++ y ∷ [])) progress start after new
+  pub took_more : (ys : List A) (y : A) (old new : ChainAuditor) (was : TookAll held (map spell ys) progress start before old)
+      → TakesMore held was.front.files was.front.taken.sessions (spell y) progress new before after
+      → TookAll held (map spell (ys ++ y ∷ [])) progress start after new
   took_more ys y old new was more =
       let names = map spell ys in
       let same : length was.front.taken.sessions ≡ length names = many_sessions was.front.files old was.front.taken ∙ was.many in
@@ -61,6 +63,7 @@ module _ {A : Type 0} (spell : A → List ℕ) (progress : Bool) (start before a
       record {
         front = record {
           files = was.front.files ++ more.file ∷ [];
+          read = all_push (IsRead held) was.front.files more.file was.front.read more.read;
           taken = more.taken;
           told = subst (λ (t : List ℕ). Appends start after t) (sym said)
               (appends_both start before after (told_of progress names was.front.taken.sessions) (told_last progress (spell y) (Some more.session)) was.front.told more.told);
@@ -69,10 +72,11 @@ module _ {A : Type 0} (spell : A → List ℕ) (progress : Bool) (start before a
       }
 
 -- of no files nothing is said
-pub took_none : (progress : Bool) (e : Option (List ℕ)) (auditor : ChainAuditor) → HasTaken [] auditor → TookAll [] progress e e auditor
-took_none progress e auditor taken = record {
+pub took_none : {File : Type 0} (held : File → Option (List ℕ)) (progress : Bool) (e : Option (List ℕ)) (auditor : ChainAuditor) → HasTaken [] auditor → TookAll held [] progress e e auditor
+took_none held progress e auditor taken = record {
   front = record {
     files = [];
+    read = tt;
     taken = taken;
     told = subst (λ (t : List ℕ). Appends e e t) (sym (told_none progress taken.sessions)) (appends_none e e refl);
   };
@@ -84,10 +88,11 @@ took_none progress e auditor taken = record {
     told_none false ss = refl
 
 -- the files taken stand in front of those of more names
-pub took_front : (names rest : List (List ℕ)) (progress : Bool) (before after : Option (List ℕ)) (auditor : ChainAuditor)
-    → TookAll names progress before after auditor → TookFirst (names ++ rest) progress before after auditor
-took_front names rest progress before after auditor all = record {
+pub took_front : {File : Type 0} (held : File → Option (List ℕ)) (names rest : List (List ℕ)) (progress : Bool) (before after : Option (List ℕ)) (auditor : ChainAuditor)
+    → TookAll held names progress before after auditor → TookFirst held (names ++ rest) progress before after auditor
+took_front held names rest progress before after auditor all = record {
   files = all.front.files;
+  read = all.front.read;
   taken = all.front.taken;
   told = subst (λ (t : List ℕ). Appends before after t)
       (sym (told_front progress names rest all.front.taken.sessions (many_sessions all.front.files auditor all.front.taken ∙ all.many))) all.front.told;
@@ -116,32 +121,33 @@ told_next progress called name front all s same more =
 -- ---- why not all are taken
 
 module _ {File : Type 0} (held : File → Option (List ℕ)) (names : List (List ℕ)) (progress : Bool) (start before after : Option (List ℕ)) where
-  stops : (auditor : ChainAuditor) (took : TookFirst names progress start before auditor) (name : List ℕ) → slice_get names (length took.files) ≡ Some name
+  stops : (auditor : ChainAuditor) (took : TookFirst held names progress start before auditor) (name : List ℕ) → slice_get names (length took.files) ≡ Some name
       → (why : Failure) → FailsBehind held took.files name why × (before ≡ after) → StopsAt held names progress start after why
   stops auditor took name here why fails = record {
     auditor = auditor;
-    took = record { files = took.files; taken = took.taken; told = subst (λ (now : Option (List ℕ)). Appends start now (told_of progress names took.taken.sessions)) fails.1 took.told };
+    took = record { files = took.files; read = took.read; taken = took.taken; told = subst (λ (now : Option (List ℕ)). Appends start now (told_of progress names took.taken.sessions)) fails.1 took.told };
     name = name;
     here = here;
     fails = fails.0;
   }
 
-  pub stopped_at : (auditor : ChainAuditor) (took : TookFirst names progress start before auditor) (name : List ℕ) → slice_get names (length took.files) ≡ Some name
+  pub stopped_at : (auditor : ChainAuditor) (took : TookFirst held names progress start before auditor) (name : List ℕ) → slice_get names (length took.files) ≡ Some name
       → (why : Failure) → TakeFails held took.files name progress before after why → IsStopped held names progress start after why
   stopped_at auditor took name here (failure.CannotRead path) f = stops auditor took name here (failure.CannotRead path) f
   stopped_at auditor took name here (failure.Chain fault) f = stops auditor took name here (failure.Chain fault) f
   stopped_at auditor took name here why f = f
 
   -- behind the files taken so far one stops the audit of them all
-  pub stopped_behind : (front rest : List (List ℕ)) → front ++ rest ≡ names → (auditor : ChainAuditor) (was : TookAll front progress start before auditor) (name : List ℕ)
+  pub stopped_behind : (front rest : List (List ℕ)) → front ++ rest ≡ names → (auditor : ChainAuditor) (was : TookAll held front progress start before auditor) (name : List ℕ)
       → slice_get names (length was.front.files) ≡ Some name → (why : Failure) → TakeFails held was.front.files name progress before after why → IsStopped held names progress start after why
   unfolding took_front
   stopped_behind front rest same auditor was name here why fails =
-      stopped_at auditor (front_of (took_front front rest progress start before auditor was)) name here why fails
+      stopped_at auditor (front_of (took_front held front rest progress start before auditor was)) name here why fails
     where
-      front_of : TookFirst (front ++ rest) progress start before auditor → TookFirst names progress start before auditor
+      front_of : TookFirst held (front ++ rest) progress start before auditor → TookFirst held names progress start before auditor
       front_of took = record {
         files = took.files;
+        read = took.read;
         taken = took.taken;
         told = subst (λ (ns : List (List ℕ)). Appends start before (told_of progress ns took.taken.sessions)) same took.told;
       }

@@ -15,12 +15,13 @@ use Rattle.commands.specs.Lines.{counts_of}
 use Rattle.mini_java.specs.Headline.{ChainRefuses}
 use Rattle.mini_java.specs.Taken.{HasTaken}
 use Rattle.mini_java.specs.declared.auditor.ChainAuditor.{ChainAuditor}
+use Rattle.session_cache.specs.Opened.{AreRead, IsAllOf, IsRead}
 use Rattle.command_line.specs.declared.asked.AuditWords.{AuditWords}
 use Rattle.commands.specs.Auditing.{AreAcceptedTexts}
 use Rattle.commands.specs.Chains.{IsAcceptedOver, RefusesOver}
 use Rattle.commands.specs.declared.auditing.AuditTexts.{AuditTexts}
 use Rattle.program_run.specs.Endings.{accepted_report}
-use Rattle.program_run.specs.Unread.{NamesFail}
+use Rattle.program_run.specs.Unread.{AreReadSources, NamesFail}
 use Rattle.program_run.specs.declared.failure.Failure.{Failure}
 use Rattle.program_run.specs.declared.failure.Failure.TheVariants as failure
 use Rattle.program_run.specs.declared.report.Report.{Report}
@@ -55,11 +56,13 @@ pub record IsAcceptedReport (v : Value) (sessions runs : ℕ) (report : Report) 
   pub tells : AreAcceptedTexts v sessions runs texts
   pub report_is : report ≡ accepted_report texts
 
--- the project of the sources of these names, if there are any
-abbrev pub IsProjectOf : List (List ℕ) → Option (List SourceFile) → Type 0
-IsProjectOf [] project = project ≡ None
-IsProjectOf (name ∷ names) (Some project) = names_of project ≡ name ∷ names
-IsProjectOf (name ∷ names) None = ⊥
+-- the project of the sources of these names, if there are any, as they were read
+abbrev pub IsProjectOf : {File : Type 0} → (File → Option (List ℕ)) → List (List ℕ)
+    → Option (List SourceFile) → Type 0
+IsProjectOf held [] project = project ≡ None
+IsProjectOf held (name ∷ names) (Some project) =
+    (names_of project ≡ name ∷ names) × AreReadSources held project
+IsProjectOf held (name ∷ names) None = ⊥
 
 -- the names of an audit: those of its files, and those of its sources
 abbrev pub file_names : AuditWords → List (List ℕ)
@@ -68,12 +71,14 @@ file_names asked = map string_bytes asked.files.items
 abbrev pub source_names : AuditWords → List (List ℕ)
 source_names asked = map string_bytes asked.sources.items
 
--- Files of these names, as many as there are names, were accepted, each with the line on its session
+-- As many files as there are names were accepted, as they were read, each with the line on its session
 -- before the report if that is wanted. The last session is one of just the sources, if there are
 -- any, and its answer is written.
-pub record AuditsTo (asked : AuditWords) (told : List ℕ) (report : Report) : Type 0 where
+pub record AuditsTo {File : Type 0} (held : File → Option (List ℕ)) (asked : AuditWords)
+    (told : List ℕ) (report : Report) : Type 0 where
   pub files : List (List ℕ)
   pub many : length files ≡ length (file_names asked)
+  pub read : AreRead held files
   pub each : List SessionValue
   pub spelled : map file_of each ≡ files
   pub sessions_are : AllByRecursion IsSession each
@@ -83,45 +88,64 @@ pub record AuditsTo (asked : AuditWords) (told : List ℕ) (report : Report) : T
   pub runs : ℕ
   pub profile : Profile
   pub project : Option (List SourceFile)
-  pub named : IsProjectOf (source_names asked) project
+  pub named : IsProjectOf held (source_names asked) project
   pub accepted : IsAcceptedOver project files profile v sessions runs
   pub written : IsAcceptedReport v sessions runs report
 
 -- ---- refused
 
--- The auditor took these files, in front of those of other names, and said what is wanted of each.
-pub record TookFirst (names : List (List ℕ)) (progress : Bool) (before after : Option (List ℕ))
-    (auditor : ChainAuditor) : Type 0 where
+-- The auditor took these files, in front of those of other names, as they were read, and said what is
+-- wanted of each.
+pub record TookFirst {File : Type 0} (held : File → Option (List ℕ)) (names : List (List ℕ))
+    (progress : Bool) (before after : Option (List ℕ)) (auditor : ChainAuditor) : Type 0 where
   pub files : List (List ℕ)
+  pub read : AreRead held files
   pub taken : HasTaken files auditor
   pub told : Appends before after (told_of progress names taken.sessions)
 
 -- The auditor took all files of these names, and said what is wanted of each.
-pub record TookAll (names : List (List ℕ)) (progress : Bool) (before after : Option (List ℕ))
-    (auditor : ChainAuditor) : Type 0 where
-  pub front : TookFirst names progress before after auditor
+pub record TookAll {File : Type 0} (held : File → Option (List ℕ)) (names : List (List ℕ))
+    (progress : Bool) (before after : Option (List ℕ)) (auditor : ChainAuditor) : Type 0 where
+  pub front : TookFirst held names progress before after auditor
   pub many : length front.files ≡ length names
 
--- Behind the files taken an opened file is refused, by the bytes that it held if its type says
--- which, whatever may follow.
+-- behind the files taken this opened file is refused, by the bytes that it held if its type says
+-- which, whatever may follow
+abbrev pub RefusesAt : {File : Type 0} → (File → Option (List ℕ)) → File → List (List ℕ)
+    → AuditFault → Type 0
+RefusesAt held opened front fault = (bytes : List ℕ) → held opened ≡ Some bytes
+    → (rest : List (List ℕ)) → ChainRefuses (front ++ bytes ∷ rest) fault
+
+-- Behind the files taken an opened file is refused so.
 pub record RefusesOpened {File : Type 0} (held : File → Option (List ℕ)) (front : List (List ℕ))
     (fault : AuditFault) : Type 0 where
   pub opened : File
-  pub refused : (bytes : List ℕ) → held opened ≡ Some bytes → (rest : List (List ℕ))
-      → ChainRefuses (front ++ bytes ∷ rest) fault
+  pub refused : RefusesAt held opened front fault
 
--- One more file was taken, whose session stands behind the others.
-pub record TakesNext (old new : ChainAuditor) : Type 0 where
+-- One more file was taken, which is all that this opened file held, and its session stands behind the
+-- others.
+pub record TakesOpened {File : Type 0} (held : File → Option (List ℕ)) (opened : File)
+    (old new : ChainAuditor) : Type 0 where
   pub file : List ℕ
+  pub whole : IsAllOf held opened file
   pub session : SessionValue
   pub taken : (front : List (List ℕ)) → HasTaken front old → HasTaken (front ++ file ∷ []) new
   pub behind : (front : List (List ℕ)) (was : HasTaken front old)
       → (taken front was).sessions ≡ was.sessions ++ session ∷ []
 
--- One more file was taken, whose session stands behind the others, and what is wanted of it was said.
-pub record TakesMore (front : List (List ℕ)) (sessions : List SessionValue) (name : List ℕ)
-    (progress : Bool) (new : ChainAuditor) (before after : Option (List ℕ)) : Type 0 where
+-- One more file was taken so.
+pub record TakesNext {File : Type 0} (held : File → Option (List ℕ)) (old new : ChainAuditor)
+    : Type 0 where
+  pub opened : File
+  pub takes : TakesOpened held opened old new
+
+-- One more file was taken, as it was read, whose session stands behind the others, and what is wanted
+-- of it was said.
+pub record TakesMore {File : Type 0} (held : File → Option (List ℕ)) (front : List (List ℕ))
+    (sessions : List SessionValue) (name : List ℕ) (progress : Bool) (new : ChainAuditor)
+    (before after : Option (List ℕ)) : Type 0 where
   pub file : List ℕ
+  pub read : IsRead held file
   pub session : SessionValue
   pub taken : HasTaken (front ++ file ∷ []) new
   pub behind : taken.sessions ≡ sessions ++ session ∷ []
@@ -132,8 +156,16 @@ abbrev pub failure_of : String Global → AuditFault → Failure
 failure_of name (chain.File k file.Device) = failure.CannotRead name
 failure_of name fault = failure.Chain fault
 
--- Why the file of this name isn't taken behind these: it can't be read, it is refused, or memory
--- ran out.
+-- why this opened file, of this name, isn't taken behind these: it can't be read, it is refused, or
+-- memory ran out
+abbrev pub FailsAtOpened : {File : Type 0} → (File → Option (List ℕ)) → File → List (List ℕ) → List ℕ
+    → Failure → Type 0
+FailsAtOpened held opened front name (failure.CannotRead path) = string_bytes path ≡ name
+FailsAtOpened held opened front name (failure.Chain fault) = RefusesAt held opened front fault
+FailsAtOpened held opened front name failure.OutOfMemory = Unit {0}
+FailsAtOpened held opened front name _ = ⊥
+
+-- why the file of this name isn't taken behind these
 abbrev pub FailsBehind : {File : Type 0} → (File → Option (List ℕ)) → List (List ℕ) → List ℕ
     → Failure → Type 0
 FailsBehind held front name (failure.CannotRead path) = string_bytes path ≡ name
@@ -160,18 +192,18 @@ TakeFails held front name progress before after why = TellFails progress why
 pub record StopsAt {File : Type 0} (held : File → Option (List ℕ)) (names : List (List ℕ))
     (progress : Bool) (before after : Option (List ℕ)) (failure : Failure) : Type 0 where
   pub auditor : ChainAuditor
-  pub took : TookFirst names progress before after auditor
+  pub took : TookFirst held names progress before after auditor
   pub name : List ℕ
   pub here : slice_get names (length took.files) ≡ Some name
   pub fails : FailsBehind held took.files name failure
 
 -- all files were taken, and the chain of them is refused
-pub record RefusesAll (asked : AuditWords) (before after : Option (List ℕ))
-    (fault : AuditFault) : Type 0 where
+pub record RefusesAll {File : Type 0} (held : File → Option (List ℕ)) (asked : AuditWords)
+    (before after : Option (List ℕ)) (fault : AuditFault) : Type 0 where
   pub auditor : ChainAuditor
-  pub took : TookAll (file_names asked) asked.progress before after auditor
+  pub took : TookAll held (file_names asked) asked.progress before after auditor
   pub project : Option (List SourceFile)
-  pub named : IsProjectOf (source_names asked) project
+  pub named : IsProjectOf held (source_names asked) project
   pub refused : RefusesOver project took.front.files fault
 
 -- why not all files of these names are taken
@@ -184,21 +216,22 @@ IsStopped held names progress before after (failure.Chain fault) =
 IsStopped held names progress before after why = TellFails progress why
 
 -- there are sources, and they can't be read or are no project
-abbrev pub SourcesFail : List (List ℕ) → Failure → Type 0
-SourcesFail names why = (names ≢ []) × NamesFail names why
+abbrev pub SourcesFail : {File : Type 0} → (File → Option (List ℕ)) → List (List ℕ) → Failure
+    → Type 0
+SourcesFail held names why = (names ≢ []) × NamesFail held names why
 
 -- Why an audit doesn't accept: its sources can't be read or are no project, one of its files stops
 -- it, or all were taken and their chain is refused, or standard error takes no line on a file.
 abbrev pub AuditFails : {File : Type 0} → (File → Option (List ℕ)) → AuditWords
     → Option (List ℕ) → Option (List ℕ) → Failure → Type 0
 AuditFails held asked before after (failure.CannotRead path) =
-    SourcesFail (source_names asked) (failure.CannotRead path)
+    SourcesFail held (source_names asked) (failure.CannotRead path)
     ⊎ StopsAt held (file_names asked) asked.progress before after (failure.CannotRead path)
 AuditFails held asked before after (failure.Project fault) =
-    SourcesFail (source_names asked) (failure.Project fault)
+    SourcesFail held (source_names asked) (failure.Project fault)
 AuditFails held asked before after (failure.Chain fault) =
     StopsAt held (file_names asked) asked.progress before after (failure.Chain fault)
-    ⊎ RefusesAll asked before after fault
+    ⊎ RefusesAll held asked before after fault
 AuditFails held asked before after failure.Untold = asked.progress ≡ true
 AuditFails held asked before after failure.OutOfMemory = Unit {0}
 AuditFails held asked before after _ = ⊥

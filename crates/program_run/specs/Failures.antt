@@ -9,6 +9,7 @@ use Rattle.commands.specs.declared.beginning.Beginning.{Beginning}
 use Rattle.code_words.specs.Explained.{first_unknown}
 use Rattle.command_line.specs.CommandLine.{Asks}
 use Rattle.command_line.specs.Plain.{asks_plainly}
+use Rattle.command_line.specs.Requests.{IsHelpAsked}
 use Rattle.command_line.specs.declared.asked.Subcommand.{Subcommand}
 use Rattle.command_line.specs.declared.asked.Words.{Words}
 use Rattle.command_line.specs.declared.asked.Words.TheVariants as words
@@ -31,19 +32,21 @@ unwritten_path dir None = dir
 
 -- The session that begins in the cache of this folder, with these notes, isn't kept, since this can't
 -- be written.
-pub record IsUnkept (dir : List ℕ) (notes path : String Global) : Type 0 where
+pub record IsUnkept {File : Type 0} (held : File → Option (List ℕ)) (dir : List ℕ)
+    (notes path : String Global) : Type 0 where
   pub beginning : Beginning
-  pub begins : IsBeginning dir beginning
+  pub begins : IsBeginning held dir beginning
   pub told : beginning.notes ≡ notes
   pub unwritten : string_bytes path ≡ unwritten_path dir beginning.place
 
 -- why `check` fails over the cache of this folder, on files of these names: one of them or the cache
 -- can't be read, they are no project, the session isn't kept, or memory ran out
-abbrev pub CheckFails : List ℕ → List (List ℕ) → Failure → Type 0
-CheckFails dir names (failure.CannotRead path) =
+abbrev pub CheckFails : {File : Type 0} → (File → Option (List ℕ)) → List ℕ → List (List ℕ)
+    → Failure → Type 0
+CheckFails held dir names (failure.CannotRead path) =
     Contains names (string_bytes path) ⊎ IsUnreadableCache dir (cache.CannotRead path)
-CheckFails dir names (failure.CannotWrite notes path) = IsUnkept dir notes path
-CheckFails dir names why = NamesFail names why
+CheckFails held dir names (failure.CannotWrite notes path) = IsUnkept held dir notes path
+CheckFails held dir names why = NamesFail held names why
 
 -- why the bytes of a file aren't shown over the previous session: they are the file of no session, or
 -- memory ran out
@@ -60,16 +63,18 @@ AreUnshown files _ = ⊥
 
 -- why there is no last session of files of these names: one can't be read; else one isn't that of a
 -- session over the one before; or memory ran out
-abbrev pub LastFails : List (List ℕ) → Failure → Type 0
-LastFails names (failure.SessionFile fault) = RefusesOneOfMany (length names) fault
-LastFails names why = AreUnread names why
+abbrev pub LastFails : {File : Type 0} → (File → Option (List ℕ)) → List (List ℕ) → Failure
+    → Type 0
+LastFails held names (failure.SessionFile fault) = RefusesOneOfMany held (length names) fault
+LastFails held names why = AreUnread names why
 
 -- why `show` and `why` fail on files of these names: there is no last session, or it has no record of
 -- the key that was named
-abbrev pub ShowFails : List (List ℕ) → Option (String Global) → Failure → Type 0
-ShowFails names of (failure.NoRecord key) =
-    LacksNamed (length names) (of_words of) (string_bytes key)
-ShowFails names of why = LastFails names why
+abbrev pub ShowFails : {File : Type 0} → (File → Option (List ℕ)) → List (List ℕ)
+    → Option (String Global) → Failure → Type 0
+ShowFails held names of (failure.NoRecord key) =
+    LacksNamed held (length names) (of_words of) (string_bytes key)
+ShowFails held names of why = LastFails held names why
 
 -- why codes aren't explained: one is unknown, or memory ran out
 abbrev pub ExplainFails : List (String Global) → Failure → Type 0
@@ -84,14 +89,14 @@ ExplainFails asked _ = ⊥
 abbrev pub FailsAt : {File : Type 0} → (File → Option (List ℕ)) → Words → Option (List ℕ)
     → Option (List ℕ) → Failure → Type 0
 FailsAt held (words.Scratch asked) before after why =
-    NamesFail (map string_bytes asked.files.items) why
+    NamesFail held (map string_bytes asked.files.items) why
 FailsAt held (words.Check asked) before after why =
-    CheckFails (string_bytes asked.cache) (map string_bytes asked.files.items) why
+    CheckFails held (string_bytes asked.cache) (map string_bytes asked.files.items) why
 FailsAt held (words.Audit asked) before after why = AuditFails held asked before after why
 FailsAt held (words.Show asked) before after why =
-    ShowFails (map string_bytes asked.files.items) asked.of why
+    ShowFails held (map string_bytes asked.files.items) asked.of why
 FailsAt held (words.Why asked) before after why =
-    ShowFails (map string_bytes asked.files.items) asked.of why
+    ShowFails held (map string_bytes asked.files.items) asked.of why
 FailsAt held (words.Explain asked) before after why =
     ExplainFails asked.items why
 
@@ -111,5 +116,5 @@ RefusesWords given fault =
 abbrev pub MayFail : {File : Type 0} → (File → Option (List ℕ)) → List (List ℕ)
     → Option (List ℕ) → Option (List ℕ) → Failure → Type 0
 MayFail held given before after (failure.Words fault) =
-    RefusesWords given fault × (before ≡ after)
+    RefusesWords given fault × IsHelpAsked given fault × (before ≡ after)
 MayFail held given before after why = FailsAsked held given before after why

@@ -14,6 +14,7 @@ use Rattle.session_file.specs.Reading.{file_after}
 use Rattle.session_file.specs.declared.fault.FileFault.{FileFault}
 use Rattle.session_file.specs.declared.fault.FileFault.TheVariants as file
 use Rattle.audit_replay.specs.Audits.{HaveFiles, last_of}
+use Rattle.session_cache.specs.Opened.{AreRead}
 use Rattle.command_line.specs.declared.asked.ShowWords.{ShowWords}
 use Rattle.command_line.specs.declared.asked.WhyWords.{WhyWords}
 use Rattle.program_run.specs.declared.failure.Failure.{Failure}
@@ -42,11 +43,13 @@ abbrev pub IsLastPair : List (List ℕ) → Option LastPair → Type 0
 IsLastPair files None = files ≡ []
 IsLastPair files (Some pair) = AreLastOf files pair.past pair.session
 
--- There are so many files of whose sessions it is the last, and this the one before it, if there is
+-- So many files were read of whose sessions it is the last, and this the one before it, if there is
 -- one.
-pub record AreLastOfMany (many : ℕ) (past : Option SessionValue) (s : SessionValue) : Type 0 where
+pub record AreLastOfMany {File : Type 0} (held : File → Option (List ℕ)) (many : ℕ)
+    (past : Option SessionValue) (s : SessionValue) : Type 0 where
   pub files : List (List ℕ)
   pub are_many : length files ≡ many
+  pub read : AreRead held files
   pub last : AreLastOf files past s
 
 abbrev pub last_session : Option LastPair → Option SessionValue
@@ -94,10 +97,11 @@ IsShown true of past s text = IsGraphOf of past s text
 IsShown false of past s text = text ≡ text_of_session s
 
 -- What is shown of the last of the sessions stands on standard output alone.
-pub record ShowsLast (asked : ShowWords) (report : Report) : Type 0 where
+pub record ShowsLast {File : Type 0} (held : File → Option (List ℕ)) (asked : ShowWords)
+    (report : Report) : Type 0 where
   pub past : Option SessionValue
   pub session : SessionValue
-  pub last : AreLastOfMany (vec_len asked.files) past session
+  pub last : AreLastOfMany held (vec_len asked.files) past session
   pub text : IsShown asked.dot (of_words asked.of) past session (string_bytes report.answer)
   pub notes : string_bytes report.notes ≡ []
   pub status : report.status ≡ status.Clean
@@ -116,10 +120,11 @@ SaysCauses (Some words) past s text = (i : ℕ) × (index_named words s ≡ Some
     × IsCausesText past s (crossing_of past s) (key_at s.records i) text
 
 -- What is said of the last of the sessions stands on standard output alone.
-pub record SaysWhy (asked : WhyWords) (report : Report) : Type 0 where
+pub record SaysWhy {File : Type 0} (held : File → Option (List ℕ)) (asked : WhyWords)
+    (report : Report) : Type 0 where
   pub past : Option SessionValue
   pub session : SessionValue
-  pub last : AreLastOfMany (vec_len asked.files) past session
+  pub last : AreLastOfMany held (vec_len asked.files) past session
   pub text : SaysCauses (of_words asked.of) past session (string_bytes report.answer)
   pub notes : string_bytes report.notes ≡ []
   pub status : report.status ≡ status.Clean
@@ -141,17 +146,20 @@ pub record RefusesOneOf (files : List (List ℕ)) (fault : FileFault) : Type 0 w
   pub last : IsLastOf front past
   pub refused : RefusesFile past file fault
 
--- There are so many files, one of which is refused like this.
-pub record RefusesOneOfMany (many : ℕ) (fault : FileFault) : Type 0 where
+-- So many files were read, one of which is refused like this.
+pub record RefusesOneOfMany {File : Type 0} (held : File → Option (List ℕ)) (many : ℕ)
+    (fault : FileFault) : Type 0 where
   pub files : List (List ℕ)
   pub are_many : length files ≡ many
+  pub read : AreRead held files
   pub refuses : RefusesOneOf files fault
 
 -- The last of so many sessions has no record of the key that was named.
-pub record LacksNamed (many : ℕ) (of : Option (List ℕ)) (words : List ℕ) : Type 0 where
+pub record LacksNamed {File : Type 0} (held : File → Option (List ℕ)) (many : ℕ)
+    (of : Option (List ℕ)) (words : List ℕ) : Type 0 where
   pub past : Option SessionValue
   pub session : SessionValue
-  pub last : AreLastOfMany many past session
+  pub last : AreLastOfMany held many past session
   pub named : of ≡ Some words
   pub lacks : index_named words session ≡ None
 

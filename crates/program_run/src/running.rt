@@ -40,16 +40,17 @@ pub fn run<R: Files + AllocGlobal, T: Threads + Wait + Sync, W: Write, E: Write>
 ) -> u8
     ensures status { IsStatus result }
     ensures answer { EndsWithAnswer result
-        → Prints (map string_bytes list.items) result (W.contents out.old) (W.contents out.new)
-        (E.contents err.old) (E.contents err.new) }
-    // What a check prints may be believed, whatever previous session it read, if that is one of some project and results
-    // with equal fingerprints are equal.
+        → Prints R.File.Read.remaining (map string_bytes list.items) result
+        (W.contents out.old) (W.contents out.new) (E.contents err.old) (E.contents err.new) }
+    // What a check prints is the answer that the session made over the previous one records, whatever that one is. It may be
+    // believed if that is one of some project and results with equal fingerprints are equal.
     ensures believed { AsksFor (map string_bytes list.items) Subcommand.Check → EndsWithAnswer result
-        → PrintsBelieved (map string_bytes list.items) (W.contents out.old) (W.contents out.new) }
+        → PrintsBelieved R.File.Read.remaining (map string_bytes list.items)
+        (W.contents out.old) (W.contents out.new) }
     ensures plain { (subcommand : Subcommand) (names : List (List ℕ))
         → files_for subcommand (map string_bytes list.items) ≡ Some names → EndsWithAnswer result
-        → PrintsPlain subcommand names result (W.contents out.old) (W.contents out.new)
-        (E.contents err.old) (E.contents err.new) }
+        → PrintsPlain R.File.Read.remaining subcommand names result
+        (W.contents out.old) (W.contents out.new) (E.contents err.old) (E.contents err.new) }
     // Why an audit refuses a chain, by the bytes of the files that were opened, if their type says which.
     ensures refused { result ≡ 3 → PrintsRefusal R.File.Read.remaining
         (map string_bytes list.items) (W.contents out.old) (W.contents out.new)
@@ -71,7 +72,8 @@ fn report_of<R: Files + AllocGlobal, T: Threads + Wait + Sync, E: Write>(
     err: &mut E,
 ) -> Result<Report, AllocError>
     ensures answer { IfOk result (λ report. IsAnswerStatus report.status
-        → ReportsAsked (map string_bytes list.items) (E.contents err.old) (E.contents err.new) report
+        → ReportsAsked R.File.Read.remaining (map string_bytes list.items)
+        (E.contents err.old) (E.contents err.new) report
         ⊎ TellsHelp (map string_bytes list.items) (E.contents err.old) (E.contents err.new) report) }
     ensures refused { IfOk result (λ report. report.status ≡ Status.ChainRefused
         → ReportsRefusal R.File.Read.remaining (map string_bytes list.items)
@@ -101,7 +103,7 @@ fn perform<R: Files + AllocGlobal, T: Threads + Wait + Sync, E: Write>(
     list: Vec<String>,
     err: &mut E,
 ) -> Result<Report, Failure>
-    ensures reports { IfOk result (ReportsAsked (map string_bytes list.items)
+    ensures reports { IfOk result (ReportsAsked R.File.Read.remaining (map string_bytes list.items)
         (E.contents err.old) (E.contents err.new)) }
     ensures answered { IfOk result (λ report. IsAnswerStatus report.status) }
     ensures plain { (subcommand : Subcommand)

@@ -5,7 +5,7 @@ ghost use Rattle.std.specs.Io.KnownBytes.{Appends};
 ghost use Rattle.audit_replay.specs.Audits.{last_of};
 ghost use Rattle.mini_java.specs.Taken.{HasTaken};
 ghost use Rattle.commands.specs.Chains.{IsAcceptedOver, RefusesOver};
-ghost use Rattle.program_run.specs.Audits.{AuditFails, AuditsTo, FailsBehind, IsProjectOf, IsStopped, SourcesFail, TakeFails, TakesMore, TakesNext, TellFails, TookAll, failure_of, told_last};
+ghost use Rattle.program_run.specs.Audits.{AuditFails, AuditsTo, FailsAtOpened, FailsBehind, IsProjectOf, IsStopped, SourcesFail, TakeFails, TakesMore, TakesNext, TakesOpened, TellFails, TookAll, failure_of, told_last};
 
 use crate::failure::Failure;
 use crate::files::{failure_to_read, read_files};
@@ -32,7 +32,8 @@ pub(crate) fn audit<R: Files + AllocGlobal, E: Write>(
     err: &mut E,
 ) -> Result<Report, Failure>
     ensures reports { IfOk result (λ report. (told : List ℕ)
-        × Appends (E.contents err.old) (E.contents err.new) told × AuditsTo asked told report) }
+        × Appends (E.contents err.old) (E.contents err.new) told
+        × AuditsTo R.File.Read.remaining asked told report) }
     ensures failed { IfErr result (AuditFails R.File.Read.remaining asked
         (E.contents err.old) (E.contents err.new)) }
 {
@@ -54,8 +55,8 @@ fn project_of<R: Files + AllocGlobal>(
     rt: &R,
     names: Vec<String>,
 ) -> Result<Option<Project>, Failure>
-    ensures named { IfOk result (IsProjectOf (map string_bytes names.items)) }
-    ensures failed { IfErr result (SourcesFail (map string_bytes names.items)) }
+    ensures named { IfOk result (IsProjectOf R.File.Read.remaining (map string_bytes names.items)) }
+    ensures failed { IfErr result (SourcesFail R.File.Read.remaining (map string_bytes names.items)) }
 {
     if names.is_empty() {
         return Ok(None);
@@ -84,8 +85,8 @@ fn take_files<R: Files + AllocGlobal, E: Write>(
     progress: bool,
     err: &mut E,
 ) -> Result<ChainAuditor, Failure>
-    ensures taken { IfOk result (TookAll (map string_bytes names.items) progress
-        (E.contents err.old) (E.contents err.new)) }
+    ensures taken { IfOk result (TookAll R.File.Read.remaining (map string_bytes names.items)
+        progress (E.contents err.old) (E.contents err.new)) }
     ensures failed { IfErr result (IsStopped R.File.Read.remaining (map string_bytes names.items)
         progress (E.contents err.old) (E.contents err.new)) }
 {
@@ -108,7 +109,7 @@ fn take_named<R: Files + AllocGlobal, E: Write>(
     err: &mut E,
 ) -> Result<(), Failure>
     ensures taken { (front : List (List ℕ)) (was : HasTaken front auditor.old) → OnOk result
-        (TakesMore front was.sessions (string_bytes name) progress auditor.new
+        (TakesMore R.File.Read.remaining front was.sessions (string_bytes name) progress auditor.new
         (E.contents err.old) (E.contents err.new)) }
     ensures failed { (front : List (List ℕ)) → HasTaken front auditor.old → IfErr result
         (TakeFails R.File.Read.remaining front (string_bytes name) progress
@@ -127,7 +128,7 @@ fn take_file<R: Files + AllocGlobal>(
     name: String,
 ) -> Result<String, Failure>
     ensures named { IfOk result (λ same. same ≡ name) }
-    ensures taken { OnOk result (TakesNext auditor.old auditor.new) }
+    ensures taken { OnOk result (TakesNext R.File.Read.remaining auditor.old auditor.new) }
     ensures failed { (front : List (List ℕ)) → HasTaken front auditor.old
         → IfErr result (FailsBehind R.File.Read.remaining front (string_bytes name)) }
 {
@@ -145,9 +146,9 @@ fn take_opened<F: Read + Drop>(
     name: String,
 ) -> Result<String, Failure>
     ensures named { IfOk result (λ same. same ≡ name) }
-    ensures taken { OnOk result (TakesNext auditor.old auditor.new) }
+    ensures taken { OnOk result (TakesOpened F.remaining file auditor.old auditor.new) }
     ensures failed { (front : List (List ℕ)) → HasTaken front auditor.old
-        → IfErr result (FailsBehind F.remaining front (string_bytes name)) }
+        → IfErr result (FailsAtOpened F.remaining file front (string_bytes name)) }
 {
     let Ok(reader) = BufReader::new(alloc, file) else {
         return Err(Failure::OutOfMemory);

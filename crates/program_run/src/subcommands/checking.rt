@@ -4,6 +4,7 @@ ghost use Rattle.named_files.specs.Projects.{names_of};
 ghost use Rattle.command_line.specs.Runnable.{IsCheckable};
 ghost use Rattle.program_run.specs.Checks.{ChecksAsked, ChecksTo};
 ghost use Rattle.program_run.specs.Failures.{CheckFails};
+ghost use Rattle.program_run.specs.Unread.{AreReadSources};
 
 use crate::failure::Failure;
 use crate::files::read_files;
@@ -38,9 +39,9 @@ pub(crate) fn check<R: Files + AllocGlobal, T: Threads + Wait + Sync>(
     asked: CheckWords,
 ) -> Result<Report, Failure>
     requires { IsCheckable asked }
-    ensures reports { IfOk result (ChecksAsked asked) }
-    ensures failed { IfErr result
-        (CheckFails (string_bytes asked.cache) (map string_bytes asked.files.items)) }
+    ensures reports { IfOk result (ChecksAsked R.File.Read.remaining asked) }
+    ensures failed { IfErr result (CheckFails R.File.Read.remaining (string_bytes asked.cache)
+        (map string_bytes asked.files.items)) }
 {
     let CheckWords {
         cache,
@@ -74,9 +75,11 @@ fn check_project<R: Files + AllocGlobal, T: Threads + Wait + Sync>(
 ) -> Result<Report, Failure>
     requires some { 1 ≤ options.jobs }
     requires most { options.jobs ≤ 64 }
-    ensures reports { IfOk result
-        (ChecksTo options.terms options.messages cache.now (names_of project.now)) }
-    ensures failed { IfErr result (CheckFails cache.now (names_of project.now)) }
+    requires read { AreReadSources R.File.Read.remaining project.now }
+    ensures reports { IfOk result (ChecksTo R.File.Read.remaining options.terms options.messages
+        cache.now (names_of project.now)) }
+    ensures failed { IfErr result
+        (CheckFails R.File.Read.remaining cache.now (names_of project.now)) }
 {
     let alloc = rt.alloc();
     let CheckOptions {

@@ -32,8 +32,9 @@ pub(crate) fn last_two<R: Files + AllocGlobal>(
     names: Vec<String>,
 ) -> Result<LastPair, Failure>
     requires { 0 < vec_len names }
-    ensures last { IfOk result (λ pair. AreLastOfMany (vec_len names) pair.past pair.session) }
-    ensures failed { IfErr result (LastFails (map string_bytes names.items)) }
+    ensures last { IfOk result (λ pair.
+        AreLastOfMany R.File.Read.remaining (vec_len names) pair.past pair.session) }
+    ensures failed { IfErr result (LastFails R.File.Read.remaining (map string_bytes names.items)) }
 {
     let Some(pair) = last_pair(rt.alloc(), read_files(rt, names)?)? else {
         unreachable!();

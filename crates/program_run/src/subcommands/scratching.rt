@@ -19,8 +19,9 @@ pub(crate) fn scratch<R: Files + AllocGlobal>(
     asked: ScratchWords,
 ) -> Result<Report, Failure>
     requires { IsScratchable asked }
-    ensures reports { IfOk result (ReportsOn asked) }
-    ensures failed { IfErr result (NamesFail (map string_bytes asked.files.items)) }
+    ensures reports { IfOk result (ReportsOn R.File.Read.remaining asked) }
+    ensures failed { IfErr result
+        (NamesFail R.File.Read.remaining (map string_bytes asked.files.items)) }
 {
     let alloc = rt.alloc();
     let ScratchWords {

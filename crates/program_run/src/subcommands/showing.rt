@@ -18,8 +18,9 @@ use std::rt::Files;
 /// records, or its graph beside the session before.
 pub(crate) fn show<R: Files + AllocGlobal>(rt: &R, asked: ShowWords) -> Result<Report, Failure>
     requires { IsShowable asked }
-    ensures reports { IfOk result (ShowsLast asked) }
-    ensures failed { IfErr result (ShowFails (map string_bytes asked.files.items) asked.of) }
+    ensures reports { IfOk result (ShowsLast R.File.Read.remaining asked) }
+    ensures failed { IfErr result
+        (ShowFails R.File.Read.remaining (map string_bytes asked.files.items) asked.of) }
 {
     let alloc = rt.alloc();
     let ShowWords { dot, of, files } = asked;

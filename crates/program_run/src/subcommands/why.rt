@@ -17,8 +17,9 @@ use std::rt::Files;
 /// on the causes of the record that is named.
 pub(crate) fn why<R: Files + AllocGlobal>(rt: &R, asked: WhyWords) -> Result<Report, Failure>
     requires { 0 < vec_len asked.files }
-    ensures reports { IfOk result (SaysWhy asked) }
-    ensures failed { IfErr result (ShowFails (map string_bytes asked.files.items) asked.of) }
+    ensures reports { IfOk result (SaysWhy R.File.Read.remaining asked) }
+    ensures failed { IfErr result
+        (ShowFails R.File.Read.remaining (map string_bytes asked.files.items) asked.of) }
 {
     let alloc = rt.alloc();
     let WhyWords { of, files } = asked;

@@ -7,12 +7,12 @@ use Rattle.program_run.proofs.running.perform.Goals as goal
 
 pub returns-in-Scratch-clause-reports : goal.returns-in-Scratch-clause-reports
 returns-in-Scratch-clause-reports g c = IfOk-weaker c.scratch.result _ _
-    (λ report reports. told_alone _ _ (words.Scratch c.in-Scratch.asked) report (rw c.in-Scratch.is at c.in_ok-asked.ensures.asked) (refl, reports))
+    (λ report reports. told_alone g.R.File.Read.remaining _ _ (words.Scratch c.in-Scratch.asked) report (rw c.in-Scratch.is at c.in_ok-asked.ensures.asked) (refl, reports))
     c.scratch.ensures.reports
 
 pub returns-in-Check-clause-reports : goal.returns-in-Check-clause-reports
 returns-in-Check-clause-reports g c = IfOk-weaker c.check.result _ _
-    (λ report reports. told_alone _ _ (words.Check c.in-Check.asked) report (rw c.in-Check.is at c.in_ok-asked.ensures.asked) (refl, reports))
+    (λ report reports. told_alone g.R.File.Read.remaining _ _ (words.Check c.in-Check.asked) report (rw c.in-Check.is at c.in_ok-asked.ensures.asked) (refl, reports))
     c.check.ensures.reports
 
 pub returns-in-Audit-clause-reports : goal.returns-in-Audit-clause-reports
@@ -22,17 +22,17 @@ returns-in-Audit-clause-reports g c = IfOk-weaker c.audit.result _ _
 
 pub returns-in-Show-clause-reports : goal.returns-in-Show-clause-reports
 returns-in-Show-clause-reports g c = IfOk-weaker c.show.result _ _
-    (λ report reports. told_alone _ _ (words.Show c.in-Show.asked) report (rw c.in-Show.is at c.in_ok-asked.ensures.asked) (refl, reports))
+    (λ report reports. told_alone g.R.File.Read.remaining _ _ (words.Show c.in-Show.asked) report (rw c.in-Show.is at c.in_ok-asked.ensures.asked) (refl, reports))
     c.show.ensures.reports
 
 pub returns-in-Why-clause-reports : goal.returns-in-Why-clause-reports
 returns-in-Why-clause-reports g c = IfOk-weaker c.why.result _ _
-    (λ report reports. told_alone _ _ (words.Why c.in-Why.asked) report (rw c.in-Why.is at c.in_ok-asked.ensures.asked) (refl, reports))
+    (λ report reports. told_alone g.R.File.Read.remaining _ _ (words.Why c.in-Why.asked) report (rw c.in-Why.is at c.in_ok-asked.ensures.asked) (refl, reports))
     c.why.ensures.reports
 
 pub returns-in-Explain-clause-reports : goal.returns-in-Explain-clause-reports
 returns-in-Explain-clause-reports g c = IfOk-weaker c.explain_codes.result _ _
-    (λ report reports. told_alone _ _ (words.Explain c.in-Explain.asked) report (rw c.in-Explain.is at c.in_ok-asked.ensures.asked) (refl, reports))
+    (λ report reports. told_alone g.R.File.Read.remaining _ _ (words.Explain c.in-Explain.asked) report (rw c.in-Explain.is at c.in_ok-asked.ensures.asked) (refl, reports))
     c.explain_codes.ensures.reports
 
 pub returns-in-Scratch-clause-refused : goal.returns-in-Scratch-clause-refused

@@ -20,6 +20,7 @@ returns-in-Ok-clause-reports g c =
       record {
         files = all.front.files;
         many = all.many;
+        read = all.front.read;
         each = all.front.taken.sessions;
         spelled = all.front.taken.passed.spelled;
         sessions_are = all.front.taken.passed.each;

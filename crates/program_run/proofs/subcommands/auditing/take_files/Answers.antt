@@ -14,7 +14,7 @@ loop-name-preserved g c =
     let was = at.invariant.took in
     let more = c.in-Ok.ensures.taken was.front.files was.front.taken in
     record {
-      took = took_more string_bytes c.args.progress (g.E.Write.contents c.args.err.now) (g.E.Write.contents at.err) (g.E.Write.contents c.take_named.new.err)
+      took = took_more g.R.File.Read.remaining string_bytes c.args.progress (g.E.Write.contents c.args.err.now) (g.E.Write.contents at.err) (g.E.Write.contents c.take_named.new.err)
           at.yielded name at.auditor c.take_named.new.auditor was more;
       left = append_assoc at.yielded (name ∷ []) (into_iter_items c.next.new.self) ∙ (ap (λ rest. at.yielded ++ rest) (sym steps) ∙ at.invariant.left);
       count =
@@ -46,4 +46,4 @@ returns-clause-taken g c =
     let at = c.loop-name in
     let none = c.in-None.ensures.steps in
     let empty : into_iter_items at.name-iterator ≡ [] = nil_from_length _ (sym at.invariant.count ∙ none.0) in
-    subst (λ (names : List _). TookAll (map string_bytes names) c.args.progress (g.E.Write.contents c.args.err.now) (g.E.Write.contents at.err) at.auditor) (all_of at.yielded (into_iter_items at.name-iterator) c.args.names.items empty at.invariant.left) at.invariant.took
+    subst (λ (names : List _). TookAll g.R.File.Read.remaining (map string_bytes names) c.args.progress (g.E.Write.contents c.args.err.now) (g.E.Write.contents at.err) at.auditor) (all_of at.yielded (into_iter_items at.name-iterator) c.args.names.items empty at.invariant.left) at.invariant.took

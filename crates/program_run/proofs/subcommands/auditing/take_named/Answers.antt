@@ -6,10 +6,12 @@ use Rattle.program_run.proofs.subcommands.auditing.take_named.Goals as goal
 
 pub returns-in-Ok-clause-taken : goal.returns-in-Ok-clause-taken
 returns-in-Ok-clause-taken g c = λ front was.
-    let more = c.in-Ok.ensures.taken in
+    let next = c.in-Ok.ensures.taken in
+    let more = next.takes in
     on_ok_weaker c.tell.result
     (λ told. record {
       file = more.file;
+      read = record { opened = next.opened; whole = more.whole };
       session = more.session;
       taken = more.taken front was;
       behind = more.behind front was;

@@ -1,10 +1,12 @@
-use Rattle.std.proofs.Common.{◌∙◌, ap, map, string_bytes}
+use Rattle.std.proofs.Common.{◌∙◌, ap, map, string_bytes, subst, sym}
 use Rattle.std.proofs.lemmas.Result.{IfOk-weaker}
 use Rattle.named_files.specs.Projects.{names_of, sources_view}
 use Rattle.program_run.specs.Failures.{CheckFails}
 use Rattle.program_run.specs.declared.failure.Failure.TheVariants as failure
 use Rattle.program_run.proofs.Failures.{told_as}
 use Rattle.program_run.proofs.Runs.{names_of_sources}
+use Rattle.program_run.proofs.Sources.{read_sources}
+use Rattle.program_run.specs.Unread.{AreReadSources}
 use Rattle.program_run.proofs.subcommands.checking.check.Goals as goal
 
 pub returns-clause-reports : goal.returns-clause-reports
@@ -25,9 +27,14 @@ returns-clause-failed g c =
 
 pub returns-in_err-project-clause-failed : goal.returns-in_err-project-clause-failed
 returns-in_err-project-clause-failed g c = told_as c.from_residual-in_err-project.result (failure.Project c.in_err-project.field-0.0)
-    (CheckFails (string_bytes c.args.asked.cache) (map string_bytes c.args.asked.files.items)) c.from_residual-in_err-project.ensures.1
+    (CheckFails g.R.File.Read.remaining (string_bytes c.args.asked.cache) (map string_bytes c.args.asked.files.items)) c.from_residual-in_err-project.ensures.1
     (record {
       files = sources_view c.in_ok-read_files.field-0.items;
       named = names_of_sources _ ∙ c.in_ok-read_files.ensures.named;
+      read = read_sources g.R.File.Read.remaining _ c.in_ok-read_files.ensures.read;
       refused = c.in_err-project.ensures.refused;
     })
+
+pub check_project-requires-clause-read : goal.check_project-requires-clause-read
+check_project-requires-clause-read g c = λ lives outlive.
+    subst (AreReadSources g.R.File.Read.remaining) (sym c.in_ok-project.ensures.accepted) (read_sources g.R.File.Read.remaining _ c.in_ok-read_files.ensures.read)

@@ -10,5 +10,6 @@ returns-clause-last g c =
     record {
       files = map (λ file. file.1.items) read;
       are_many = length-map read (λ file. file.1.items) ∙ many;
+      read = c.in_ok-read_files.ensures.read;
       last = rw c.in-Some.is at c.in_ok-pair.ensures.last;
     }
