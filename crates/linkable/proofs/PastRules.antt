@@ -1,5 +1,5 @@
 -- The previous session, file by file.
-use Rattle.std.proofs.Common.{◌≡◌, ◌≢◌, ◌∙◌, ◌<◌, ◌≤◌, ◌+◌, inl, inr, ℕ, zero, suc, List, [], ◌∷◌, ◌++◌, Option, Some, None, Result, Err, length, take, drop, map, refl, sym, ap, subst, arith}
+use Rattle.std.proofs.Common.{◌≡◌, ◌≢◌, ◌∙◌, ◌<◌, ◌≤◌, ◌+◌, inl, inr, ℕ, zero, suc, List, [], ◌∷◌, ◌++◌, Option, Some, None, Result, Ok, Err, length, take, drop, map, refl, sym, ap, subst, arith}
 use Rattle.std.specs.Prelude.{slice_get}
 use Rattle.std.proofs.lemmas.Option.{none-some, same_Some, slice_get_within}
 use Rattle.std.proofs.lemmas.List.{length-take, map-append, take_all}
@@ -7,15 +7,14 @@ use Rattle.audit_replay.specs.Audits.{last_of}
 use Rattle.audit_replay.proofs.FileRules.{last_more}
 use Rattle.item_ids.proofs.Lists.{all_push}
 use Rattle.packed_files.specs.Runs.{packed_runs}
-use Rattle.session_file.specs.Reading.{IsUnlessMemory}
+use Rattle.session_file.specs.Reading.{IsUnlessMemory, file_after}
 use Rattle.session_file.specs.declared.fault.FileFault.{FileFault}
 use Rattle.session_file.specs.declared.fault.FileFault.TheVariants as file
 use Rattle.sessions.specs.Sessions.{AreTaken, IsSession, IsTakenFrom, SessionValue}
 use Rattle.sessions.specs.Spelling.{file_of}
-use Rattle.session_text.specs.FaultWords.{fault_words}
-use Rattle.linkable.specs.Chains.{AreNoChain, file_line}
+use Rattle.linkable.specs.Chains.{AreNoChain}
 use Rattle.linkable.specs.Past.{EndWith, IsNoPastIn, IsNoSession}
-use Rattle.linkable.specs.PastSteps.{IsLast, IsUnread}
+use Rattle.linkable.specs.PastSteps.{AreNumbered, IsLast, IsMisnumbered, IsNoFile, IsNumbered, IsUnread}
 use Rattle.linkable.specs.Stopping.{Says}
 use Rattle.linkable.specs.declared.stopping.Stop.{Stop}
 use Rattle.linkable.proofs.Lines.{says_weaker}
@@ -24,6 +23,15 @@ use Rattle.linkable.proofs.Lines.{says_weaker}
 pub breach_is : (fault : FileFault) (answer : Result SessionValue FileFault) → fault ≢ file.OutOfMemory → IsUnlessMemory (Err fault) answer → answer ≡ Err fault
 breach_is file.OutOfMemory answer other exact = absurd (other refl)
 breach_is fault answer other exact = sym exact
+
+module _ (past : Option SessionValue) (bytes : List ℕ) (number : ℕ) (why : Stop) where
+  -- a file that is that of no session isn't read, nor is one of a session with another number
+  pub no_file : Says (IsNoFile past bytes number) why → Says (IsUnread past bytes number) why
+  no_file says = says_weaker (IsNoFile past bytes number) (IsUnread past bytes number) (λ line none. inl none) why says
+
+  pub other_number : (s : SessionValue) → file_after past bytes ≡ Ok s → Says (IsMisnumbered past s number) why → Says (IsUnread past bytes number) why
+  other_number s reads says = says_weaker (IsMisnumbered past s number) (IsUnread past bytes number)
+      (λ line other. inr (record { session = s; reads = reads; misnumbered = other })) why says
 
 -- ---- lists of files
 
@@ -43,16 +51,20 @@ many_taken xs k within = omega (arith, within, length-take k xs)
 -- ---- the last session
 
 pub end_none : (past : Option SessionValue) → past ≡ None → EndWith [] past
-end_none past none = record { sessions = []; have = record { each = tt; taken = tt; spelled = refl }; last = sym none }
+end_none past none = record { sessions = []; have = record { each = tt; taken = tt; spelled = refl }; numbered = tt; last = sym none }
 
 taken_behind : (past : Option SessionValue) (ss : List SessionValue) (s : SessionValue) → AreTaken past ss → IsTakenFrom (last_of past ss) s → AreTaken past (ss ++ s ∷ [])
 taken_behind past [] s taken more = (more, tt)
 taken_behind past (t ∷ ss) s taken more = (taken.0, taken_behind (Some t) ss s taken.1 more)
 
+numbered_behind : (past : Option SessionValue) (ss : List SessionValue) (s : SessionValue) → AreNumbered past ss → IsNumbered (last_of past ss) s → AreNumbered past (ss ++ s ∷ [])
+numbered_behind past [] s numbered more = (more, tt)
+numbered_behind past (t ∷ ss) s numbered more = (numbered.0, numbered_behind (Some t) ss s numbered.1 more)
+
 module _ (files : List (List ℕ)) (k : ℕ) (bytes : List ℕ) (here : slice_get files k ≡ Some bytes) (past : Option SessionValue) (so_far : EndWith (take k files) past) where
   -- one more session is the last one
-  pub end_more : (s : SessionValue) → IsSession s → IsTakenFrom past s → bytes ≡ file_of s → EndWith (take (suc k) files) (Some s)
-  end_more s session taken file = record {
+  pub end_more : (s : SessionValue) → IsSession s → IsTakenFrom past s → IsNumbered past s → bytes ≡ file_of s → EndWith (take (suc k) files) (Some s)
+  end_more s session taken numbered file = record {
     sessions = so_far.sessions ++ s ∷ [];
     have = record {
       each = all_push IsSession so_far.sessions s so_far.have.each session;
@@ -60,6 +72,7 @@ module _ (files : List (List ℕ)) (k : ℕ) (bytes : List ℕ) (here : slice_ge
       spelled = map-append file_of so_far.sessions (s ∷ []) ∙ ap (λ (fs : List (List ℕ)). fs ++ file_of s ∷ []) so_far.have.spelled
           ∙ ap (λ (f : List ℕ). take k files ++ f ∷ []) (sym file) ∙ sym (take_next files k bytes here);
     };
+    numbered = numbered_behind None so_far.sessions s so_far.numbered (subst (λ p. IsNumbered p s) (sym so_far.last) numbered);
     last = last_more None so_far.sessions s;
   }
 
@@ -71,9 +84,7 @@ module _ (files : List (List ℕ)) (k : ℕ) (bytes : List ℕ) (here : slice_ge
     parts = parts_at files k bytes here;
     past = past;
     end = so_far;
-    fault = unread.fault;
-    breach = unread.breach;
-    line_is = unread.line_is ∙ ap (λ n. file_line n (fault_words unread.fault)) (sym (many_taken files k within));
+    unread = subst (λ (n : ℕ). IsUnread past bytes n line) (sym (many_taken files k within)) unread;
   }
     where
       within : k ≤ length files

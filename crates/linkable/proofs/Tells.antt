@@ -52,7 +52,7 @@ by_none bytes number messages line told none e = inr (record { unknown = none.un
 
 pub of_project : {E : Type 0} (r : Result Told E) (bytes : List ℕ) (files : List SourceFile) (profile : Profile) (messages : Bool) → IsProjectIn bytes files
     → IfOk r (λ told. TellsAnswer files profile messages (told_of told)) → IfOk r (λ told. TellsUnpacked bytes profile messages (told_of told))
-of_project (Ok told) bytes files profile messages is tells = inl (record { files = files; packed_are = is.packed_are; tells = inl tells })
+of_project (Ok told) bytes files profile messages is tells = inl (record { files = files; packed_are = is.packed_are; packable = is.packable; tells = inl tells })
 of_project (Err e) bytes files profile messages is tells = tt
 
 pub of_none : (bytes : List ℕ) (profile : Profile) (messages : Bool) (line : List ℕ) (told : Telling) → IsNoProjectIn bytes line → told ≡ refusal line → TellsUnpacked bytes profile messages told
@@ -60,6 +60,7 @@ of_none bytes profile messages line told (inl flawed) e = inr (record { fault = 
 of_none bytes profile messages line told (inr none) e = inl (record {
   files = none.files;
   packed_are = none.packed_are;
+  packable = none.packable;
   tells = inr (record { fault = none.none.fault; refuses = none.none.refuses; line = e ∙ ap refusal none.none.line_is });
 })
 

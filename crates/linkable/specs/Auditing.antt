@@ -1,6 +1,7 @@
 -- What an audit in memory reports.
-use Rattle.std.specs.Prelude.{◌≡◌, ◌⊎◌, ◌∷◌, ℕ, List, [], Option, Some, None}
+use Rattle.std.specs.Prelude.{◌≡◌, ◌≢◌, ◌⊎◌, ◌∷◌, ℕ, List, [], Option, Some, None}
 use Rattle.audit_graph.specs.declared.fault.AuditFault.{AuditFault}
+use Rattle.audit_graph.specs.declared.fault.AuditFault.TheVariants as chain
 use Rattle.audit_replay.specs.Audits.{AreApart, HaveFiles, last_entry}
 use Rattle.graph_rules.specs.Next.{AreSources}
 use Rattle.mini_java.specs.Headline.{IsOfTheRules}
@@ -45,10 +46,11 @@ pub record TellsAccepted (files : List (List ℕ)) (project : Option (List Sourc
   pub tells : AreAcceptedTexts v sessions runs texts
   pub told_is : told ≡ chain_telling texts
 
--- The files make no accepted chain, and the report says why.
+-- The files make no accepted chain, and the report says why, which isn't want of memory.
 pub record TellsRefused (files : List (List ℕ)) (project : Option (List SourceFile))
     (told : Telling) : Type 0 where
   pub fault : AuditFault
+  pub named : fault ≢ chain.OutOfMemory
   pub refused : RefusesOver project files fault
   pub told_is : told ≡ chain_refusal (refused_line (chain_words fault))
 

@@ -1,18 +1,17 @@
 -- The previous session, by the files of its chain.
-use Rattle.std.specs.Prelude.{◌≡◌, ◌⊎◌, ℕ, ◌+◌, ◌≤◌, List, ◌∷◌, ◌++◌, length, Option, Some, None, Err, codes}
+use Rattle.std.specs.Prelude.{◌≡◌, ◌⊎◌, ℕ, ◌+◌, ◌≤◌, List, ◌∷◌, ◌++◌, length, Option, Some, None, codes}
 use Rattle.audit_replay.specs.Audits.{HaveFiles, last_of}
 use Rattle.packed_files.specs.Runs.{packed_runs}
-use Rattle.session_file.specs.Reading.{file_after}
-use Rattle.session_file.specs.declared.fault.FileFault.{FileFault}
-use Rattle.session_text.specs.FaultWords.{fault_words}
 use Rattle.sessions.specs.Sessions.{SessionValue, most_number}
 use Rattle.linkable.specs.Chains.{AreNoChain, file_line}
+use Rattle.linkable.specs.PastSteps.{AreNumbered, IsUnread}
 
--- The files are those of sessions, each taken from the one before, and this is the last of them, if
--- there are any.
+-- The files are those of sessions, each taken from the one before, whose number it follows, and this is
+-- the last of them, if there are any.
 pub record EndWith (files : List (List ℕ)) (past : Option SessionValue) : Type 0 where
   pub sessions : List SessionValue
   pub have : HaveFiles sessions files
+  pub numbered : AreNumbered None sessions
   pub last : last_of None sessions ≡ past
 
 -- The bytes are such files, packed.
@@ -21,7 +20,7 @@ pub record IsPastIn (bytes : List ℕ) (past : Option SessionValue) : Type 0 whe
   pub packed_are : packed_runs files ≡ bytes
   pub end : EndWith files past
 
--- The file behind so many is that of no session over theirs, and the line says why.
+-- The file behind so many is that of no session that comes after theirs, and the line says why.
 pub record IsNoSession (files : List (List ℕ)) (line : List ℕ) : Type 0 where
   pub front : List (List ℕ)
   pub file : List ℕ
@@ -29,9 +28,7 @@ pub record IsNoSession (files : List (List ℕ)) (line : List ℕ) : Type 0 wher
   pub parts : files ≡ front ++ file ∷ rest
   pub past : Option SessionValue
   pub end : EndWith front past
-  pub fault : FileFault
-  pub breach : file_after past file ≡ Err fault
-  pub line_is : line ≡ file_line (length front) (fault_words fault)
+  pub unread : IsUnread past file (length front) line
 
 -- The last file is that of the last session that a chain can have, and the line says so.
 pub record IsFull (files : List (List ℕ)) (line : List ℕ) : Type 0 where

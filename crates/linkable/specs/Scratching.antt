@@ -1,5 +1,6 @@
 -- What is reported of files in memory that are checked from scratch.
 use Rattle.std.specs.Prelude.{◌≡◌, ◌⊎◌, ℕ, Bool, List}
+use Rattle.std.specs.List.{AllByRecursion}
 use Rattle.diagnostic_lines.specs.Lines.{IsFaultText, is_clean}
 use Rattle.commands.specs.Refusals.{refusal_words}
 use Rattle.named_files.specs.Projects.{SourceFile, IsProject, Refuses}
@@ -7,7 +8,7 @@ use Rattle.named_files.specs.declared.project.ProjectFault.{ProjectFault}
 use Rattle.mj_rules.specs.AnswerWords.{AnswerValue, text_of}
 use Rattle.mj_rules.specs.Rules.{Rules}
 use Rattle.packed_files.specs.FlawWords.{flaw_line}
-use Rattle.packed_files.specs.Packing.{packed}
+use Rattle.packed_files.specs.Packing.{IsPackable, packed}
 use Rattle.packed_files.specs.Unpacking as no_files
 use Rattle.packed_files.specs.declared.flaws.UnpackFault.{UnpackFault}
 use Rattle.packed_files.specs.declared.flaws.UnpackFault.TheVariants as faults
@@ -37,11 +38,12 @@ abbrev pub TellsFiles : List SourceFile → Profile → Bool → Telling → Typ
 TellsFiles files profile messages told =
     TellsAnswer files profile messages told ⊎ TellsNoProject files told
 
--- The files that the bytes are.
+-- The files that the bytes are, each with a name that is a text.
 pub record TellsPacked (bytes : List ℕ) (profile : Profile) (messages : Bool)
     (told : Telling) : Type 0 where
   pub files : List SourceFile
   pub packed_are : packed files ≡ bytes
+  pub packable : AllByRecursion IsPackable files
   pub tells : TellsFiles files profile messages told
 
 -- the first file that has a flaw; out of memory has no text

@@ -1,12 +1,14 @@
 //! The previous session, from the files of its chain.
-ghost use Rattle.std.specs.Prelude.{◌≡◌, ◌≢◌, ◌<◌, IfOk, IfErr, IfSome, map, string_bytes};
+ghost use Rattle.std.specs.Prelude.{◌≡◌, ◌≢◌, ◌<◌, Ok, IfOk, OnOk, IfErr, IfSome, map, string_bytes};
+ghost use Rattle.std.specs.Option.{option_copied};
+ghost use Rattle.session_file.specs.Reading.{file_after};
 ghost use Rattle.std.specs.Arc.{arc_value};
 ghost use Rattle.session_text.specs.FaultWords.{fault_words};
 ghost use Rattle.sessions.specs.Sessions.{IsSession, IsTakenFrom, most_number, session_in};
 ghost use Rattle.sessions.specs.Spelling.{file_of};
 ghost use Rattle.linkable.specs.Chains.{file_line};
 ghost use Rattle.linkable.specs.Past.{EndWith, IsNoPastIn, IsNoSession, IsPastIn};
-ghost use Rattle.linkable.specs.PastSteps.{IsLast, IsUnread};
+ghost use Rattle.linkable.specs.PastSteps.{IsLast, IsMisnumbered, IsNoFile, IsNumbered, IsUnread};
 ghost use Rattle.linkable.specs.Stopping.{Says};
 
 use crate::chains::{file_text, files_in};
@@ -17,8 +19,8 @@ use sessions::Session;
 use std::alloc::{AllocError, Global};
 use std::sync::Arc;
 
-/// The session of the last of the files that these bytes are, if there are any, each read over the one before. One can
-/// follow it.
+/// The session of the last of the files that these bytes are, if there are any, each read over the one before, whose
+/// number it follows. One can follow it.
 pub(crate) fn past_in(alloc: Global, bytes: &[u8]) -> Result<Option<Arc<Session>>, Stop>
     ensures past { IfOk result (λ past. IsPastIn bytes.now (session_in past)) }
     ensures room { IfOk result (λ past. IfSome (session_in past) (λ s. s.number < most_number)) }
@@ -54,8 +56,8 @@ fn last_session(alloc: Global, files: &[&[u8]]) -> Result<Option<Session>, Stop>
     Ok(past)
 }
 
-// The session whose file these bytes are, the one of this number, over the previous one.
-#[tactic(auto, using(crate::proofs::PastRules::breach_is))]
+// The session whose file these bytes are, the one of this number, over the previous one, whose number it follows.
+#[tactic(auto, using(crate::proofs::PastRules::no_file, crate::proofs::PastRules::other_number))]
 fn read_behind(
     alloc: Global,
     past: Option<Session>,
@@ -64,13 +66,59 @@ fn read_behind(
 ) -> Result<Session, Stop>
     ensures session { IfOk result IsSession }
     ensures taken { IfOk result (IsTakenFrom past) }
+    ensures numbered { IfOk result (IsNumbered past) }
     ensures file { IfOk result (λ s. bytes.now ≡ file_of s) }
     ensures refused { IfErr result (Says (IsUnread past bytes.now number)) }
 {
-    match read_after(alloc, past.as_ref(), bytes) {
+    let session = match read_file(alloc, past.as_ref(), number, bytes) {
+        Ok(session) => session,
+        Err(stop) => return Err(stop),
+    };
+    match check_number(alloc, past.as_ref(), number, &session) {
+        Ok(()) => Ok(session),
+        Err(stop) => Err(stop),
+    }
+}
+
+// The session whose file these bytes are, the one of this number, over the previous one.
+#[tactic(auto, using(crate::proofs::PastRules::breach_is))]
+fn read_file(
+    alloc: Global,
+    past: Option<&Session>,
+    number: usize,
+    bytes: &[u8],
+) -> Result<Session, Stop>
+    ensures session { IfOk result IsSession }
+    ensures taken { IfOk result (IsTakenFrom (option_copied past.entry)) }
+    ensures file { IfOk result (λ s. bytes.now ≡ file_of s) }
+    ensures reads { IfOk result (λ s. file_after (option_copied past.entry) bytes.now ≡ Ok s) }
+    ensures refused { IfErr result (Says (IsNoFile (option_copied past.entry) bytes.now number)) }
+{
+    match read_after(alloc, past, bytes) {
         Ok(session) => Ok(session),
         Err(fault) => Err(Stop::Refused(fault_text(alloc, number, fault)?)),
     }
+}
+
+// Refuses the session of the file of this number if its own number doesn't follow the previous one's.
+fn check_number(
+    alloc: Global,
+    past: Option<&Session>,
+    number: usize,
+    session: &Session,
+) -> Result<(), Stop>
+    ensures numbered { OnOk result (IsNumbered (option_copied past.entry) session.now) }
+    ensures refused { IfErr result
+        (Says (IsMisnumbered (option_copied past.entry) session.now number)) }
+{
+    let Some(past) = past else {
+        return Ok(());
+    };
+    let (before, now) = (past.number(), session.number());
+    if before < now && now - before == 1 {
+        return Ok(());
+    }
+    Err(Stop::Refused(file_text(alloc, number, "number")?))
 }
 
 // What is said of the file of this number, which is that of no session. Out of memory has no text.

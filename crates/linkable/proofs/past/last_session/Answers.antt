@@ -16,4 +16,4 @@ loop-number-preserved c =
     let lt : at.number < length c.args.files.now = omega (arith, c.loop-number-test.true) in
     let one : at.number + 1 ≡ suc at.number = omega arith in
     rw one (end_more (map (λ (f : Bor (List ℕ)). f.now) c.args.files.now) at.number _ (file_there c.args.files.now at.number _ lt) at.past at.invariant c.in-Ok.session
-    c.in-Ok.ensures.session c.in-Ok.ensures.taken c.in-Ok.ensures.file)
+    c.in-Ok.ensures.session c.in-Ok.ensures.taken c.in-Ok.ensures.numbered c.in-Ok.ensures.file)
