@@ -211,13 +211,7 @@ impl<J: Naming, R: Runner> Locked<J, R> {
 
     /// Gives a worker a key that is done with this result. Only the table adds to the list, and so knows all of it, so that
     /// the first try succeeds; no clause of the list says so, and it is tried until it does.
-    fn tell<T: Wait>(
-        &mut self,
-        rt: &T,
-        memo: &mut Memo<J, R>,
-        key: &Key,
-        sealed: &Arc<Sealed>,
-    )
+    fn tell<T: Wait>(&mut self, rt: &T, memo: &mut Memo<J, R>, key: &Key, sealed: &Arc<Sealed>)
         requires { IsDoneWith (arc_value sealed.now) ((state_of self.old).at key.now) }
         ensures same { self.new ≡ self.old }
         ensures told { IsKnown R.queries J.opened memo.new key.now (arc_value sealed.now) }
