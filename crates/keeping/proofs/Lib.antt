@@ -1,0 +1,4 @@
+pub mod Runs
+pub mod Following
+pub mod Kept
+pub mod Readers

@@ -1,0 +1,4 @@
+pub mod Follows
+pub mod Kept
+pub mod Readers
+pub mod Keeping

@@ -1,0 +1,11 @@
+use Rattle.resident_graph.proofs.Lists.{wider_same, wider_push, has_pushed}
+use Rattle.resident_graph.proofs.queueing.push_place.Goals as goal
+
+pub returns-in_err-push-clause-wider : goal.returns-in_err-push-clause-wider
+returns-in_err-push-clause-wider c = wider_same _ _ _ _ c.requires c.index_mut.ensures.value c.in_err-push.ensures.items
+
+pub returns-clause-wider : goal.returns-clause-wider
+returns-clause-wider c = wider_push _ _ _ _ _ c.requires c.index_mut.ensures.value c.in_ok-push.ensures.items
+
+pub returns-clause-ok : goal.returns-clause-ok
+returns-clause-ok c = has_pushed _ _ _ c.index_mut.result.now _ c.requires c.in_ok-push.ensures.items

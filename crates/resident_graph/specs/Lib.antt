@@ -1,0 +1,4 @@
+pub mod Places
+pub mod Lists
+pub mod Runs
+pub mod Graphs
