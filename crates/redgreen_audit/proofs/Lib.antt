@@ -1,0 +1,9 @@
+pub mod Places
+pub mod Passing
+pub mod Making
+pub mod SeenKeys
+pub mod Differing
+pub mod Chains
+pub mod Walking
+pub mod Complete
+pub mod Built

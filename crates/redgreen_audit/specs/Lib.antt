@@ -1,0 +1,4 @@
+pub mod Answering
+pub mod Checks
+pub mod Refusals
+pub mod Right

@@ -1,0 +1,2 @@
+pub mod FeedLaws
+pub mod FileLaws

@@ -1,0 +1,3 @@
+pub mod Reordered
+pub mod Stuck
+pub mod Legally
