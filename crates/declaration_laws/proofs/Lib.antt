@@ -1,0 +1,3 @@
+pub mod Edits
+pub mod Firsts
+pub mod Faults

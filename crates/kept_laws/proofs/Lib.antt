@@ -1,0 +1,4 @@
+pub mod Taking
+pub mod Climbing
+pub mod Answering
+pub mod Tests

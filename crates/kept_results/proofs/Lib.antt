@@ -1,0 +1,4 @@
+pub mod Merging
+pub mod Knowing
+pub mod Naming
+pub mod Running
