@@ -1,0 +1,5 @@
+pub mod Words
+pub mod Messages
+pub mod Faults
+pub mod Feeding
+pub mod Steps
