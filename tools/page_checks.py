@@ -10,7 +10,7 @@ import plants
 
 TOP = Path(__file__).resolve().parent.parent
 # The most words of a page, as wc -w counts them.
-MOST_WORDS = {"README.md": 1900, "docs/PROOFS.md": 4000, "docs/ARCHITECTURE.md": 5000, "docs/DECISIONS.md": 5500,
+MOST_WORDS = {"README.md": 1900, "docs/PROOFS.md": 4000, "docs/ARCHITECTURE.md": 4500, "docs/DECISIONS.md": 5500,
               "docs/CONTRIBUTING.md": 2400, "docs/SESSIONS.md": 3000, "docs/LANGUAGE.md": 2500, "docs/EMBEDDING.md": 1700,
               "docs/QUERIES.md": 1400, "docs/YOUR_QUERIES.md": 1300, "bench/README.md": 1500}
 MOST_IN_A_LINE, MOST_IN_A_CELL = 140, 300
