@@ -99,7 +99,7 @@ mjrg_result mjrg_scratch(const uint8_t *files, size_t files_size, uint32_t profi
  *     refused: session file 2: its length is cut off     session file 2, counted from 0, is the first one that isn't whole
  *     refused: session file 2: its bytes are cut off
  *     refused: session file 2: 11.4 BadDigest            it is the file of no session over the one before
- *     refused: session file 2: number                    its session's number isn't the one behind that of the session before
+ *     refused: session file 2: number                    its session's number isn't the one after that of the session before
  *     refused: session file 2: full                      its session is the last that a chain can have */
 mjrg_session_result mjrg_check(const uint8_t *files, size_t files_size, const uint8_t *past, size_t past_size, uint32_t profile,
                                uint32_t form, uint32_t messages, uint8_t *session, size_t session_size, uint8_t *out,

@@ -57,7 +57,7 @@ main_at : (files : List SourceFile) (i : ℕ) (f : SourceFile) (o : Option File)
 main_at files i f None e t h = absurd (true≢false (sym h))
 main_at files i f (Some tree) e t h = record { file = e; tree = tree; sentence = (sentence_law f.bytes tree).1 t; main = h }
 
--- a main class at a place is the first, or another one stands before it
+-- a main class at a place is the first, or another one is before it
 abbrev FirstOr : ℕ → List SourceFile → ℕ → Type 0
 FirstOr n fs j = (first_main_from n (trees_of fs) ≢ Some (n + j)) → (i : ℕ) × (f : SourceFile) × (i < j) × (slice_get fs i ≡ Some f) × (has_main (file_of f.bytes) ≡ true)
 
@@ -76,7 +76,7 @@ first_or n (f ∷ fs) (suc j) g e h = go (first_or (suc n) fs j g e h) (has_main
         let r = rest (λ same. differs (ap (λ (b : Bool). if b then Some n else first_main_from (suc n) (trees_of fs)) t ∙ same ∙ ap (λ (m : ℕ). Some m) shift)) in
         (suc r.0, r.1, (let l = r.2 in omega (arith, l)), r.3, r.4)
 
--- if one stands before a place, the first isn't there
+-- if one is before a place, the first isn't there
 before_first : (n : ℕ) (fs : List SourceFile) (i j : ℕ) (f : SourceFile) → i < j → slice_get fs i ≡ Some f → has_main (file_of f.bytes) ≡ true → first_main_from n (trees_of fs) ≢ Some (n + j)
 before_first n [] i j f lt e h = absurd cc
 before_first n (x ∷ fs) i j f lt e h = go (λ i k l g. before_first (suc n) fs i k f l g h) (has_main (file_of x.bytes)) refl i j lt e

@@ -12,17 +12,17 @@ pub fn index_is_by_first_spots()
     ensures { IndexLaw }
 {}
 
-/// An earlier class has the name of a class exactly if the class doesn't stand at the first spot of its name.
+/// An earlier class has the name of a class exactly if the class isn't at the first spot of its name.
 pub fn later_spots_are_repeated()
     ensures { RepeatLaw }
 {}
 
-/// E104 stands just at the classes that aren't declared at the first spot of their names.
+/// E104 comes just at the classes that aren't declared at the first spot of their names.
 pub fn later_classes_are_faults()
     ensures { LaterClassLaw }
 {}
 
-/// E103 stands just at the files with a main class but the first of them.
+/// E103 comes just at the files with a main class but the first of them.
 pub fn later_mains_are_faults()
     ensures { LaterMainLaw }
 {}

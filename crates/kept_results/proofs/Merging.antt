@@ -81,7 +81,7 @@ come None None e = refl
 come None (Some x) e = refl
 come (Some x) r e = absurd cc
 
--- the first row of the old list stands alone
+-- the first row of the old list is alone
 old_alone : (o : IndexRow) (os B : List IndexRow) (c : Name) → (o.class ≡ c → first_file B c ≡ None)
     → change_at (o ∷ os) B c ≡ option_or (change_at os B c) (noted_at o.class (Some ComesOrGoes) c)
 old_alone o os B c none = go (bytes_eq o.class c) refl

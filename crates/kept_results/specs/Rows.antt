@@ -24,7 +24,7 @@ change_at old new c = row_change (first_file old c) (first_file new c)
 
 -- ---- by steps
 
--- which of two rows stands first, by the classes
+-- which of two rows is first, by the classes
 abbrev pub order_of : Option IndexRow → Option IndexRow → Ordering
 order_of None None = Equal
 order_of (Some o) None = Less
@@ -39,7 +39,7 @@ noted_by Less o n = noted_at o.class (Some ComesOrGoes)
 noted_by Equal o n = noted_at o.class (row_change (Some o.file) (Some n.file))
 noted_by Greater o n = noted_at n.class (Some ComesOrGoes)
 
--- what becomes of the row that stands first
+-- what becomes of the row that is first
 abbrev pub noted : Option IndexRow → Option IndexRow → Name → Option RowChange
 noted None None = λ c. None
 noted (Some o) None = noted_at o.class (Some ComesOrGoes)

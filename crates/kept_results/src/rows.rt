@@ -53,7 +53,7 @@ fn note_both(
     Ok(first)
 }
 
-/// The same of the rows that stand next in two lists.
+/// The same of the rows that are next in two lists.
 fn note_next(
     alloc: Global,
     changes: &mut BTreeMap<Name, RowChange>,

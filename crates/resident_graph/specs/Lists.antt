@@ -1,4 +1,4 @@
--- How lists stand for what a graph in memory knows.
+-- What lists say of a graph in memory.
 use Rattle.std.specs.Prelude.{◌≡◌, ◌≢◌, ℕ, ◌<◌, Bool, true, false, List, [], map, slice_index_or, length, Contains, Vec}
 use Rattle.std.proofs.Common.{sym, subst}
 use Rattle.std.specs.Arc.{arc_value}
@@ -39,7 +39,7 @@ WidensBut at old new =
 abbrev pub AreNoFewer : List Bool → List Bool → Type 0
 AreNoFewer old new = (i : ℕ) → flag_in old i ≡ true → flag_in new i ≡ true
 
--- each place that is queued stands in the level of its key's rank
+-- each place that is queued is in the level of its key's rank
 abbrev pub IsQueue : List Key → List Bool → List (Vec ℕ Global) → Type 0
 IsQueue ks queued queue =
     (i : ℕ) → flag_in queued i ≡ true → Contains (list_in queue (rank (key_in ks i))) i
